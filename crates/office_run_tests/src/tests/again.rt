@@ -1,7 +1,7 @@
 //! A second run over what the first one wrote, with a table and an index of over 64 KB.
 
-use crate::tests::{has_file, named, office, serve_in};
-use folders::{MemoryFolder, MemorySource};
+use crate::tests::{add, add_folder, begins_with, folder_from, has_file, office};
+use folders::{MemoryFolder, MemorySource, NamedFile};
 use sample_files::{EMPTY, NOTE, with_zeros};
 use std::alloc::{AllocError, Global};
 use std::sync::Wait;
@@ -31,17 +31,18 @@ fn hello(alloc: Global) -> Result<Vec<u8>, AllocError> {
     with_zeros(alloc, bytes.as_slice(), 1_024)
 }
 
+// Puts that table and those memos after other files.
+fn add_first(alloc: Global, files: &mut Vec<NamedFile>) -> Result<(), AllocError> {
+    add(alloc, files, b"large.dbf", large(alloc)?.as_slice())?;
+    add(alloc, files, b"m.dbf", &NOTE)?;
+    add(alloc, files, b"m.dbt", hello(alloc)?.as_slice())
+}
+
 // The office with that table and those memos.
 fn first_source(alloc: Global) -> Result<MemorySource, AllocError> {
     let setup = b"TABLE L large.dbf\nINDEX L X x.ndx\nTABLE M m.dbf m.dbt\nSTATION nothing\n";
     let mut source = office(alloc, setup, b"")?;
-    source
-        .files
-        .push(named(alloc, b"large.dbf", large(alloc)?.as_slice())?)?;
-    source.files.push(named(alloc, b"m.dbf", &NOTE)?)?;
-    source
-        .files
-        .push(named(alloc, b"m.dbt", hello(alloc)?.as_slice())?)?;
+    add_first(alloc, &mut source.files)?;
     Ok(source)
 }
 
@@ -49,41 +50,29 @@ fn first_source(alloc: Global) -> Result<MemorySource, AllocError> {
 fn second_source(alloc: Global, folder: &MemoryFolder) -> Result<MemorySource, AllocError> {
     let setup = b"TABLE L L.DBF\nINDEX L X X.NDX\nTABLE M M.DBF M.DBT\nSTATION nothing\n";
     let mut source = office(alloc, setup, b"")?;
-    for file in &folder.files {
-        source
-            .files
-            .push(named(alloc, file.name.as_slice(), file.bytes.as_slice())?)?;
-    }
+    add_folder(alloc, &mut source.files, folder)?;
     Ok(source)
 }
 
-// What a run of no command writes.
-fn written<R: Threads + Wait + Sync>(
-    rt: &R,
-    alloc: Global,
-    source: &mut MemorySource,
-    reindex: bool,
-) -> Result<MemoryFolder, Fail> {
-    let mut folder = MemoryFolder::new(alloc);
-    match serve_in(rt, alloc, source, 1987, reindex, &mut folder)? {
-        Ok(0) => Ok(folder),
-        _ => Err("another count of commands".into()),
-    }
-}
-
+// What the first run writes, which is one of no command.
 fn first_folder<R: Threads + Wait + Sync>(rt: &R, alloc: Global) -> Result<MemoryFolder, Fail> {
     let mut source = first_source(alloc)?;
-    written(rt, alloc, &mut source, true)
+    folder_from(rt, alloc, &mut source, true, 0)
+}
+
+// What the second run writes.
+fn second_folder<R: Threads + Wait + Sync>(
+    rt: &R,
+    alloc: Global,
+    folder: &MemoryFolder,
+) -> Result<MemoryFolder, Fail> {
+    let mut source = second_source(alloc, folder)?;
+    folder_from(rt, alloc, &mut source, false, 0)
 }
 
 // Whether the folder has the other's files and no more.
 fn has_same_files(folder: &MemoryFolder, other: &MemoryFolder) -> bool {
-    for (place, file) in other.files.iter().enumerate() {
-        if !has_file(folder, place, file.name.as_slice(), file.bytes.as_slice()) {
-            return false;
-        }
-    }
-    folder.files.len() == other.files.len()
+    begins_with(folder, other) && folder.files.len() == other.files.len()
 }
 
 // Whether the folder's file at this place has over 64 KB.
@@ -94,20 +83,32 @@ fn is_large(folder: &MemoryFolder, place: usize) -> bool {
     }
 }
 
+// Whether a folder begins with these bytes of the large table and with its index, both of over 64 KB.
+fn has_large_table(folder: &MemoryFolder, table: &[u8]) -> bool {
+    has_file(folder, 0, b"L.DBF", table) && is_large(folder, 0) && is_large(folder, 1)
+}
+
 #[test]
 fn large_table_is_written_as_it_was_read(rt: HostRuntime) -> Result<(), Fail> {
+    let table = large(rt.alloc())?;
     let folder = first_folder(&rt, rt.alloc())?;
-    assert!(rt; has_file(&folder, 0, b"L.DBF", large(rt.alloc())?.as_slice()));
-    assert!(rt; is_large(&folder, 0) && is_large(&folder, 1));
+    assert!(rt; has_large_table(&folder, table.as_slice()));
     Ok(())
+}
+
+// Whether the second run writes the five files of the first one.
+fn is_written_again<R: Threads + Wait + Sync>(
+    rt: &R,
+    alloc: Global,
+    folder: &MemoryFolder,
+) -> Result<bool, Fail> {
+    let again = second_folder(rt, alloc, folder)?;
+    Ok(again.files.len() == 5 && has_same_files(&again, folder))
 }
 
 #[test]
 fn second_run_writes_the_same_files(rt: HostRuntime) -> Result<(), Fail> {
     let folder = first_folder(&rt, rt.alloc())?;
-    let mut source = second_source(rt.alloc(), &folder)?;
-    let again = written(&rt, rt.alloc(), &mut source, false)?;
-    assert_eq!(rt; again.files.len(), 5);
-    assert!(rt; has_same_files(&again, &folder));
+    assert!(rt; is_written_again(&rt, rt.alloc(), &folder)?);
     Ok(())
 }

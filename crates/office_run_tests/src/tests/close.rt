@@ -2,22 +2,24 @@ use byte_io::Bytes;
 use dbf_fields::{CHARACTER, Field, MEMO, Schema, day_of};
 use dbf_image::TableData;
 use folders::MemoryFolder;
-use journal_file::sum_of;
+use journal_file::{FileSum, sum_of};
 use key_expr::KeyExpr;
 use ndx_index::{MAX_PAIRS, OrderedIndex};
 use office_run::{CloseFault, ClosedIndex, ClosedTable, RunFiles, close_files};
 use sample_files::{EMPTY_INDEX, TABLE, table, with_zeros};
 use std::alloc::Global;
+use std::process::Abort;
 use std::test::Fail;
 
-// What stands before the 0x1A in the file of a table with the memo NOTE and without records.
+// The file of a table with the memo NOTE and without records.
 #[rattlefmt::skip]
-const MEMO_TABLE: [u8; 65] = [
+const MEMO_TABLE: [u8; 66] = [
     0x83, 0x57, 0x03, 0x0f, 0x00, 0x00, 0x00, 0x00, 0x41, 0x00, 0x0b, 0x00, 0, 0, 0, 0,
     0, 0, 0, 0, 0, 0, 0, 0, 0, 0, 0, 0, 0, 0, 0, 0,
     0x4e, 0x4f, 0x54, 0x45, 0, 0, 0, 0, 0, 0, 0, 0x4d, 0, 0, 0, 0,
     0x0a, 0x00, 0, 0, 0, 0, 0, 0, 0, 0, 0, 0, 0, 0, 0, 0,
     0x0d,
+    0x1a,
 ];
 
 // The first bytes of a file of no memos: the next free block is 1. Zeros follow.
@@ -28,11 +30,19 @@ fn schema_of(alloc: Global, name: &[u8], kind: u8) -> Result<Schema, Fail> {
     Ok(Schema::new(alloc, &[field])?)
 }
 
-// The empty index NAMES on NAME.
-fn index_of(alloc: Global) -> Result<ClosedIndex, Fail> {
-    let name = Bytes::from_slice(alloc, b"NAMES")?;
-    let expr = KeyExpr::parse(alloc, b"NAME", &schema_of(alloc, b"NAME", CHARACTER)?)?;
-    let index = OrderedIndex::new(alloc, 10);
+// The key expression NAME.
+fn expression_of(alloc: Global) -> Result<KeyExpr, Fail> {
+    let schema = schema_of(alloc, b"NAME", CHARACTER)?;
+    Ok(KeyExpr::parse(alloc, b"NAME", &schema)?)
+}
+
+// An index with the pairs of this one.
+fn closed_index(
+    alloc: Global,
+    name: Bytes,
+    expr: KeyExpr,
+    index: &OrderedIndex,
+) -> Result<ClosedIndex, Fail> {
     let pairs = index.pairs(alloc)?;
     if pairs.len() > MAX_PAIRS || index.key_len() != expr.key_len() {
         return Err("keys of another length".into());
@@ -40,19 +50,44 @@ fn index_of(alloc: Global) -> Result<ClosedIndex, Fail> {
     Ok(ClosedIndex::new(name, expr, pairs))
 }
 
-// The table T with an index, and the table M with memos.
-fn tables_of(alloc: Global) -> Result<Vec<ClosedTable>, Fail> {
-    let first = ClosedTable {
-        name: Bytes::from_slice(alloc, b"T")?,
-        content: table(alloc, &TABLE)?,
-        indexes: vec![in alloc; index_of(alloc)?]?,
-    };
-    let second = ClosedTable {
-        name: Bytes::from_slice(alloc, b"M")?,
-        content: TableData::empty(alloc, schema_of(alloc, b"NOTE", MEMO)?),
+// The empty index NAMES on NAME.
+fn index_of(alloc: Global) -> Result<ClosedIndex, Fail> {
+    let name = Bytes::from_slice(alloc, b"NAMES")?;
+    let expr = expression_of(alloc)?;
+    closed_index(alloc, name, expr, &OrderedIndex::new(alloc, 10))
+}
+
+// That index alone.
+fn indexes_of(alloc: Global) -> Result<Vec<ClosedIndex>, Fail> {
+    Ok(vec![in alloc; index_of(alloc)?]?)
+}
+
+// The table T with an index.
+fn first_table(alloc: Global) -> Result<ClosedTable, Fail> {
+    let name = Bytes::from_slice(alloc, b"T")?;
+    let content = table(alloc, &TABLE)?;
+    Ok(ClosedTable {
+        name,
+        content,
+        indexes: indexes_of(alloc)?,
+    })
+}
+
+// The table M with memos.
+fn second_table(alloc: Global) -> Result<ClosedTable, Fail> {
+    let name = Bytes::from_slice(alloc, b"M")?;
+    let schema = schema_of(alloc, b"NOTE", MEMO)?;
+    Ok(ClosedTable {
+        name,
+        content: TableData::empty(alloc, schema),
         indexes: Vec::new(alloc),
-    };
-    Ok(vec![in alloc; first, second]?)
+    })
+}
+
+// Both tables.
+fn tables_of(alloc: Global) -> Result<Vec<ClosedTable>, Fail> {
+    let first = first_table(alloc)?;
+    Ok(vec![in alloc; first, second_table(alloc)?]?)
 }
 
 fn answers_of(alloc: Global) -> Result<Vec<Bytes>, Fail> {
@@ -66,26 +101,37 @@ fn close(
     folder: &mut MemoryFolder,
 ) -> Result<Result<(), CloseFault>, Fail> {
     let day = day_of(year, 3, 15).ok_or("a date")?;
-    let tables = tables_of(alloc)?;
     let answers = answers_of(alloc)?;
+    let tables = tables_of(alloc)?;
     Ok(close_files(alloc, &tables, &answers, day, folder))
 }
 
-fn with_end(alloc: Global, bytes: &[u8]) -> Result<Vec<u8>, Fail> {
-    let mut all = Vec::from_slice(alloc, bytes)?;
-    all.push(0x1a)?;
-    Ok(all)
+// Puts a file after others: its name, its first bytes, and its length. The other bytes are zeros.
+fn add(
+    alloc: Global,
+    files: &mut Vec<(&'static [u8], Vec<u8>)>,
+    name: &'static [u8],
+    bytes: &[u8],
+    length: usize,
+) -> Result<(), Fail> {
+    files.push((name, with_zeros(alloc, bytes, length)?))?;
+    Ok(())
+}
+
+// Puts the files that a run writes after others.
+fn add_all(alloc: Global, files: &mut Vec<(&'static [u8], Vec<u8>)>) -> Result<(), Fail> {
+    add(alloc, files, b"T.DBF", &TABLE, 88)?;
+    add(alloc, files, b"NAMES.NDX", &EMPTY_INDEX, 1_024)?;
+    add(alloc, files, b"M.DBF", &MEMO_TABLE, 66)?;
+    add(alloc, files, b"M.DBT", &EMPTY_MEMOS, 512)?;
+    add(alloc, files, b"STATION1.TXT", b"OK\n", 3)?;
+    add(alloc, files, b"STATION2.TXT", b"", 0)
 }
 
 // The files that a run writes, by name.
 fn wanted_files(alloc: Global) -> Result<Vec<(&'static [u8], Vec<u8>)>, Fail> {
     let mut files: Vec<(&'static [u8], Vec<u8>)> = Vec::new(alloc);
-    files.push((b"T.DBF", Vec::from_slice(alloc, &TABLE)?))?;
-    files.push((b"NAMES.NDX", with_zeros(alloc, &EMPTY_INDEX, 1_024)?))?;
-    files.push((b"M.DBF", with_end(alloc, &MEMO_TABLE)?))?;
-    files.push((b"M.DBT", with_zeros(alloc, &EMPTY_MEMOS, 512)?))?;
-    files.push((b"STATION1.TXT", Vec::from_slice(alloc, b"OK\n")?))?;
-    files.push((b"STATION2.TXT", Vec::new(alloc)))?;
+    add_all(alloc, &mut files)?;
     Ok(files)
 }
 
@@ -104,16 +150,24 @@ fn first_other(folder: &MemoryFolder, wanted: &[(&[u8], Vec<u8>)], count: usize)
     None
 }
 
+// Whether closing into a folder that takes so many bytes a call writes the six files that are wanted.
+fn writes_all(alloc: Global, most: usize, wanted: &[(&[u8], Vec<u8>)]) -> Result<bool, Fail> {
+    let mut folder = MemoryFolder::new(alloc);
+    folder.most = most;
+    let is_closed = close(alloc, 1987, &mut folder)?.is_ok();
+    Ok(is_closed && folder.files.len() == 6 && first_other(&folder, wanted, 6).is_none())
+}
+
+// Whether closing into a folder that takes so many bytes a call writes the files of a run.
+fn writes_run(alloc: Global, most: usize) -> Result<bool, Fail> {
+    let wanted = wanted_files(alloc)?;
+    writes_all(alloc, most, &wanted)
+}
+
 #[test]
 fn files_are_written_in_order(rt: HostRuntime) -> Result<(), Fail> {
-    let alloc = rt.alloc();
-    let wanted = wanted_files(alloc)?;
     for most in [usize::MAX, 7] {
-        let mut folder = MemoryFolder::new(alloc);
-        folder.most = most;
-        assert_eq!(rt; close(alloc, 1987, &mut folder)?, Ok(()));
-        assert_eq!(rt; folder.files.len(), 6);
-        assert_eq!(rt; first_other(&folder, &wanted, 6), None);
+        assert!(rt; writes_run(rt.alloc(), most)?);
     }
     Ok(())
 }
@@ -133,23 +187,41 @@ fn is_outside(alloc: Global, year: u16) -> Result<bool, Fail> {
     Ok(matches!(outcome, Err(CloseFault::DateOutside)) && folder.files.is_empty())
 }
 
+// Whether closing into a folder whose second call fails leaves T.DBF alone, without bytes.
+fn begins_the_table(alloc: Global) -> Result<bool, Fail> {
+    let mut folder = MemoryFolder::new(alloc);
+    folder.calls = 1;
+    let is_named = fails_at(alloc, &mut folder, b"T.DBF")?;
+    Ok(is_named && folder.files.len() == 1 && folder.files[0].bytes.len() == 0)
+}
+
 #[test]
 fn folder_fails_at_first_write(rt: HostRuntime) -> Result<(), Fail> {
     let alloc = rt.alloc();
-    let mut folder = MemoryFolder::new(alloc);
-    folder.calls = 1;
-    assert!(rt; fails_at(alloc, &mut folder, b"T.DBF")?);
-    assert_eq!(rt; folder.files.len(), 1);
-    assert_eq!(rt; folder.files[0].bytes.len(), 0);
+    assert!(rt; begins_the_table(alloc)?);
     assert!(rt; is_outside(alloc, 2156)?);
     assert!(rt; is_outside(alloc, 1899)?);
     Ok(())
 }
 
-#[test]
-fn folder_fails_at_each_call(rt: HostRuntime) -> Result<(), Fail> {
-    let alloc = rt.alloc();
-    let wanted = wanted_files(alloc)?;
+// Whether closing into a folder of so many calls answers that this file was not written, and leaves so many files whole
+// and so many begun.
+fn leaves(
+    alloc: Global,
+    wanted: &[(&[u8], Vec<u8>)],
+    calls: u64,
+    name: &[u8],
+    whole: usize,
+    begun: usize,
+) -> Result<bool, Fail> {
+    let mut folder = MemoryFolder::new(alloc);
+    folder.calls = calls;
+    let is_named = fails_at(alloc, &mut folder, name)?;
+    Ok(is_named && folder.files.len() == begun && first_other(&folder, wanted, whole).is_none())
+}
+
+// Asserts what each call that fails leaves of the files that are wanted.
+fn assert_left(rt: &impl Abort, alloc: Global, wanted: &[(&[u8], Vec<u8>)]) -> Result<(), Fail> {
     // The call that fails, the file that it names, and how many files are whole and begun then.
     let cases: [(u64, &[u8], usize, usize); 11] = [
         (0, b"T.DBF", 0, 0),
@@ -165,13 +237,37 @@ fn folder_fails_at_each_call(rt: HostRuntime) -> Result<(), Fail> {
         (10, b"STATION2.TXT", 5, 5),
     ];
     for (calls, name, whole, begun) in cases {
-        let mut folder = MemoryFolder::new(alloc);
-        folder.calls = calls;
-        assert!(rt; fails_at(alloc, &mut folder, name)?);
-        assert_eq!(rt; folder.files.len(), begun);
-        assert_eq!(rt; first_other(&folder, &wanted, whole), None);
+        assert!(rt; leaves(alloc, wanted, calls, name, whole, begun)?);
     }
     Ok(())
+}
+
+#[test]
+fn folder_fails_at_each_call(rt: HostRuntime) -> Result<(), Fail> {
+    let wanted = wanted_files(rt.alloc())?;
+    assert_left(&rt, rt.alloc(), &wanted)
+}
+
+// Whether a journal says the same of a file as of one of this name and these bytes.
+fn is_sum_of(alloc: Global, sum: &FileSum, name: &[u8], bytes: &[u8]) -> Result<bool, Fail> {
+    let wanted = sum_of(alloc, name, bytes)?;
+    Ok(
+        sum.path.as_slice() == wanted.path.as_slice()
+            && sum.length == wanted.length
+            && sum.digest == wanted.digest,
+    )
+}
+
+// Whether a journal says of a file that is planned the same as of the one that is wanted there.
+fn is_wanted(
+    alloc: Global,
+    sum: &FileSum,
+    wanted: Option<&(&[u8], Vec<u8>)>,
+) -> Result<bool, Fail> {
+    match wanted {
+        Some((name, bytes)) => is_sum_of(alloc, sum, name, bytes.as_slice()),
+        None => Ok(false),
+    }
 }
 
 // The place of the first planned file of which a journal says something else than of the one wanted there.
@@ -182,38 +278,52 @@ fn first_other_planned(
 ) -> Result<Option<usize>, Fail> {
     for i in 0..files.count() {
         let sum = files.sum(alloc, i)?;
-        let Some((name, bytes)) = wanted.get(i) else {
-            return Ok(Some(i));
-        };
-        let wanted = sum_of(alloc, name, bytes.as_slice())?;
-        if sum.path.as_slice() != wanted.path.as_slice()
-            || sum.length != wanted.length
-            || sum.digest != wanted.digest
-        {
+        if !is_wanted(alloc, &sum, wanted.get(i))? {
             return Ok(Some(i));
         }
     }
     Ok(None)
 }
 
+// How many files of the run in 1987 are planned, and the place of the first one of which a journal says something else
+// than of the one wanted there.
+fn planned(
+    alloc: Global,
+    tables: &[ClosedTable],
+    answers: &[Bytes],
+    wanted: &[(&[u8], Vec<u8>)],
+) -> Result<(usize, Option<usize>), Fail> {
+    let day = day_of(1987, 3, 15).ok_or("a date")?;
+    let files = RunFiles::plan(alloc, tables, answers, day)?;
+    let other = first_other_planned(alloc, &files, wanted)?;
+    Ok((files.count(), other))
+}
+
+// Whether no file is planned on a day that no table can have.
+fn is_late(alloc: Global, tables: &[ClosedTable], answers: &[Bytes]) -> Result<bool, Fail> {
+    let late = day_of(2156, 3, 15).ok_or("a date")?;
+    Ok(matches!(
+        RunFiles::plan(alloc, tables, answers, late),
+        Err(CloseFault::DateOutside)
+    ))
+}
+
+// Asserts what is planned of these tables and answers.
+fn assert_planned(
+    rt: &impl Abort,
+    alloc: Global,
+    tables: &[ClosedTable],
+    answers: &[Bytes],
+) -> Result<(), Fail> {
+    let found = planned(alloc, tables, answers, &wanted_files(alloc)?)?;
+    assert_eq!(rt; found, (6, None));
+    assert!(rt; is_late(alloc, tables, answers)?);
+    Ok(())
+}
+
 #[test]
 fn files_are_summed_before_they_are_written(rt: HostRuntime) -> Result<(), Fail> {
-    let alloc = rt.alloc();
-    let wanted = wanted_files(alloc)?;
-    let tables = tables_of(alloc)?;
-    let answers = answers_of(alloc)?;
-    let day = day_of(1987, 3, 15).ok_or("a date")?;
-    let files = RunFiles::plan(alloc, &tables, &answers, day)?;
-    assert_eq!(rt;
-        (files.count(), first_other_planned(alloc, &files, &wanted)?),
-        (6, None)
-    );
-    let late = day_of(2156, 3, 15).ok_or("a date")?;
-    assert!(rt;
-        matches!(
-            RunFiles::plan(alloc, &tables, &answers, late),
-            Err(CloseFault::DateOutside)
-        )
-    );
-    Ok(())
+    let answers = answers_of(rt.alloc())?;
+    let tables = tables_of(rt.alloc())?;
+    assert_planned(&rt, rt.alloc(), &tables, &answers)
 }

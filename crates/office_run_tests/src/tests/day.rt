@@ -1,10 +1,12 @@
 //! A day of the demo office, as its station 1 sees it: the vouchers of the ledger that its script meets.
 
-use crate::tests::{has_file, named, office, serve_in};
-use folders::MemoryFolder;
+use crate::tests::{add, folder_from, has_file, office};
+use folders::{MemoryFolder, MemorySource, NamedFile};
 use sample_files::with_zeros;
 use std::alloc::{AllocError, Global};
+use std::sync::Wait;
 use std::test::Fail;
+use std::thread::Threads;
 
 // The header of the ledger: 240 records of 48 bytes; DAY D, ACCOUNT C 8, ENTRY C 20, AMOUNT N 10.2, PAID L.
 #[rattlefmt::skip]
@@ -116,27 +118,40 @@ fn index(alloc: Global) -> Result<Vec<u8>, AllocError> {
     with_zeros(alloc, bytes.as_slice(), 1_024)
 }
 
+// Puts the ledger and its index after other files.
+fn add_ledger(alloc: Global, files: &mut Vec<NamedFile>) -> Result<(), AllocError> {
+    add(alloc, files, b"LEDGER.DBF", ledger(alloc)?.as_slice())?;
+    add(alloc, files, b"BYACCT.NDX", index(alloc)?.as_slice())
+}
+
+// The office with the ledger.
+fn office_of_ledger(alloc: Global) -> Result<MemorySource, AllocError> {
+    let mut source = office(alloc, LEDGER_SETUP, SCRIPT)?;
+    add_ledger(alloc, &mut source.files)?;
+    Ok(source)
+}
+
+// What is written of the day.
+fn written<R: Threads + Wait + Sync>(rt: &R, alloc: Global) -> Result<MemoryFolder, Fail> {
+    let mut source = office_of_ledger(alloc)?;
+    folder_from(rt, alloc, &mut source, true, 24)
+}
+
+// Whether a folder's first file is the ledger with one voucher more, the one that was entered.
+fn has_new_voucher(folder: &MemoryFolder) -> bool {
+    match folder.files.first() {
+        Some(file) => {
+            let bytes = file.bytes.as_slice();
+            bytes.len() == 193 + 241 * 48 + 1
+                && bytes.ends_with(b" 19870302POST    VOUCHER 1241             -4.80 \x1a")
+        }
+        None => false,
+    }
+}
+
 #[test]
 fn office_day(rt: HostRuntime) -> Result<(), Fail> {
-    let alloc = rt.alloc();
-    let mut source = office(alloc, LEDGER_SETUP, SCRIPT)?;
-    let table = ledger(alloc)?;
-    source
-        .files
-        .push(named(alloc, b"LEDGER.DBF", table.as_slice())?)?;
-    let pages = index(alloc)?;
-    source
-        .files
-        .push(named(alloc, b"BYACCT.NDX", pages.as_slice())?)?;
-    let mut folder = MemoryFolder::new(alloc);
-    let served = serve_in(&rt, alloc, &mut source, 1987, true, &mut folder)?;
-    assert_eq!(rt; served, Ok(24));
-    assert!(rt; has_file(&folder, 2, b"STATION1.TXT", ANSWERS));
-    let written = match folder.files.first() {
-        Some(file) => file.bytes.as_slice(),
-        None => return Err("a table".into()),
-    };
-    assert_eq!(rt; written.len(), 193 + 241 * 48 + 1);
-    assert!(rt; written.ends_with(b" 19870302POST    VOUCHER 1241             -4.80 \x1a"));
+    let folder = written(&rt, rt.alloc())?;
+    assert!(rt; has_file(&folder, 2, b"STATION1.TXT", ANSWERS) && has_new_voucher(&folder));
     Ok(())
 }

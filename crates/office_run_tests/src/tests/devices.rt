@@ -29,27 +29,33 @@ pub(crate) fn failing_folder(alloc: Global, calls: u64, most: usize) -> MemoryFo
 }
 
 // The name of the file that a run couldn't write, if so it ended.
-pub(crate) fn unwritten(served: Result<u64, ServeFault>) -> Option<Bytes> {
+fn unwritten(served: Result<u64, ServeFault>) -> Option<Bytes> {
     match served {
         Err(ServeFault::Close(CloseFault::Write(name))) => Some(name),
         _ => None,
     }
 }
 
-// What the run of the empty indexed table leaves in a folder of this many calls, where the file of this name
-// can't be written.
-fn folder_before<R: Threads + Wait + Sync>(
+// Whether a run ended since it couldn't write the file of this name.
+fn ended_at(served: Result<u64, ServeFault>, name: &[u8]) -> bool {
+    match unwritten(served) {
+        Some(file) => file.as_slice() == name,
+        None => false,
+    }
+}
+
+// Whether the run of the empty indexed table can't write the file of this name into a folder of this many calls, and
+// leaves these files there.
+fn leaves<R: Threads + Wait + Sync>(
     rt: &R,
     alloc: Global,
     calls: u64,
     name: &[u8],
-) -> Result<MemoryFolder, Fail> {
+    files: &[(&[u8], &[u8])],
+) -> Result<bool, Fail> {
     let mut folder = failing_folder(alloc, calls, usize::MAX);
     let served = serve_setup(rt, alloc, EMPTY_INDEXED, b"", &mut folder)?;
-    match unwritten(served) {
-        Some(file) if file.as_slice() == name => Ok(folder),
-        _ => Err("another ending".into()),
-    }
+    Ok(ended_at(served, name) && has_files(&folder, files))
 }
 
 // The calls are: begin and write of T.DBF, begin and write of X.NDX.
@@ -57,8 +63,7 @@ fn folder_before<R: Threads + Wait + Sync>(
 fn folder_fails_at_first_write(rt: HostRuntime) -> Result<(), Fail> {
     let cases: [(u64, &[(&[u8], &[u8])]); 2] = [(0, &[]), (1, &[(b"T.DBF", b"")])];
     for (calls, files) in cases {
-        let folder = folder_before(&rt, rt.alloc(), calls, b"T.DBF")?;
-        assert!(rt; has_files(&folder, files));
+        assert!(rt; leaves(&rt, rt.alloc(), calls, b"T.DBF", files)?);
     }
     Ok(())
 }
@@ -66,8 +71,8 @@ fn folder_fails_at_first_write(rt: HostRuntime) -> Result<(), Fail> {
 // The table before the index is whole, of 66 bytes.
 #[test]
 fn folder_fails_at_the_index(rt: HostRuntime) -> Result<(), Fail> {
-    let folder = folder_before(&rt, rt.alloc(), 2, b"X.NDX")?;
-    assert!(rt; has_files(&folder, &[(b"T.DBF", &EMPTY)]));
+    let files: [(&[u8], &[u8]); 1] = [(b"T.DBF", &EMPTY)];
+    assert!(rt; leaves(&rt, rt.alloc(), 2, b"X.NDX", &files)?);
     Ok(())
 }
 
@@ -84,7 +89,7 @@ fn is_part(file: &OpenFile, whole: &OpenFile) -> bool {
 
 // Whether a folder has the files of a whole run before the one of this name, of that one a front part or nothing, and
 // no other file.
-pub(crate) fn is_cut_at(folder: &MemoryFolder, whole: &MemoryFolder, name: &[u8]) -> bool {
+fn is_cut_at(folder: &MemoryFolder, whole: &MemoryFolder, name: &[u8]) -> bool {
     let mut place = 0;
     for file in &whole.files {
         if file.name.as_slice() == name {
@@ -101,6 +106,34 @@ pub(crate) fn is_cut_at(folder: &MemoryFolder, whole: &MemoryFolder, name: &[u8]
     false
 }
 
+// Whether a run of two commands came to its end; where it didn't, its folder has what stands before the file that it names.
+pub(crate) fn is_done(
+    served: Result<u64, ServeFault>,
+    folder: &MemoryFolder,
+    whole: &MemoryFolder,
+) -> Result<bool, Fail> {
+    if served == Ok(2) {
+        return Ok(true);
+    }
+    match unwritten(served) {
+        Some(name) if is_cut_at(folder, whole, name.as_slice()) => Ok(false),
+        _ => Err("another ending".into()),
+    }
+}
+
+// Whether the run comes to its end in a folder of this many calls, which takes this many bytes a call at most.
+fn ends_in<R: Threads + Wait + Sync>(
+    rt: &R,
+    alloc: Global,
+    calls: u64,
+    most: usize,
+    whole: &MemoryFolder,
+) -> Result<bool, Fail> {
+    let mut folder = failing_folder(alloc, calls, most);
+    let served = serve_setup(rt, alloc, TWO_TABLES, TWO_LINES, &mut folder)?;
+    is_done(served, &folder, whole)
+}
+
 // How many calls of the folder the run needs that takes this many bytes a call at most. One call after another is the
 // first that fails until none does; each time what is left is looked at.
 fn calls_of_run<R: Threads + Wait + Sync>(
@@ -110,35 +143,42 @@ fn calls_of_run<R: Threads + Wait + Sync>(
     whole: &MemoryFolder,
 ) -> Result<u64, Fail> {
     for calls in 0..1_000 {
-        let mut folder = failing_folder(alloc, calls, most);
-        let served = serve_setup(rt, alloc, TWO_TABLES, TWO_LINES, &mut folder)?;
-        if served == Ok(2) {
+        if ends_in(rt, alloc, calls, most, whole)? {
             return Ok(calls);
-        }
-        match unwritten(served) {
-            Some(name) if is_cut_at(&folder, whole, name.as_slice()) => {}
-            _ => return Err("another ending".into()),
         }
     }
     Err("too many calls".into())
+}
+
+// How many calls the run needs of a folder that takes all bytes in one call, and of one that takes 32.
+fn calls_of_both<R: Threads + Wait + Sync>(rt: &R, alloc: Global) -> Result<[u64; 2], Fail> {
+    let whole = folder_of(rt, alloc, TWO_TABLES, TWO_LINES, 2)?;
+    let calls = calls_of_run(rt, alloc, usize::MAX, &whole)?;
+    Ok([calls, calls_of_run(rt, alloc, 32, &whole)?])
 }
 
 // The files have 88, 66, 1,024 and 5 bytes. The calls are four of begin, and of write one for each 32 bytes or part of them,
 // or one a file.
 #[test]
 fn each_call_of_the_folder_fails_in_turn(rt: HostRuntime) -> Result<(), Fail> {
-    let alloc = rt.alloc();
-    let whole = folder_of(&rt, alloc, TWO_TABLES, TWO_LINES, 2)?;
-    for (most, calls) in [(usize::MAX, 8), (32, 43)] {
-        assert_eq!(rt; calls_of_run(&rt, alloc, most, &whole)?, calls);
-    }
+    assert_eq!(rt; calls_of_both(&rt, rt.alloc())?, [8, 43]);
     Ok(())
+}
+
+// Whether the run leaves these files in a folder that takes a byte a call.
+fn leaves_by_bytes<R: Threads + Wait + Sync>(
+    rt: &R,
+    alloc: Global,
+    files: &[(&[u8], &[u8])],
+) -> Result<bool, Fail> {
+    let mut folder = failing_folder(alloc, u64::MAX, 1);
+    let served = serve_setup(rt, alloc, TWO_TABLES, TWO_LINES, &mut folder)?;
+    Ok(served == Ok(2) && has_files(&folder, files))
 }
 
 #[test]
 fn folder_that_takes_a_byte_a_call_has_the_same_files(rt: HostRuntime) -> Result<(), Fail> {
     let alloc = rt.alloc();
-    let mut folder = failing_folder(alloc, u64::MAX, 1);
     let index = with_zeros(alloc, &EMPTY_INDEX, 1_024)?;
     let files: [(&[u8], &[u8]); 4] = [
         (b"T.DBF", &TABLE),
@@ -146,7 +186,6 @@ fn folder_that_takes_a_byte_a_call_has_the_same_files(rt: HostRuntime) -> Result
         (b"X.NDX", index.as_slice()),
         (b"STATION1.TXT", TWO_ANSWERS),
     ];
-    let served = serve_setup(&rt, alloc, TWO_TABLES, TWO_LINES, &mut folder)?;
-    assert!(rt; served == Ok(2) && has_files(&folder, &files));
+    assert!(rt; leaves_by_bytes(&rt, alloc, &files)?);
     Ok(())
 }

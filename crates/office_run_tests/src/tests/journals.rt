@@ -1,7 +1,9 @@
 //! Runs whose journal is written too: its text, where it stands, and a folder that fails at it.
 
-use crate::tests::devices::{failing_folder, is_cut_at, unwritten};
-use crate::tests::{SETUP, begins_with, folder_of, has_file, has_files, office, performed};
+use crate::tests::devices::{failing_folder, is_done};
+use crate::tests::{
+    SETUP, begins_with, expect_count, folder_of, has_file, has_files, office, performed,
+};
 use byte_io::Bytes;
 use dbf_fields::day_of;
 use folders::MemoryFolder;
@@ -60,16 +62,28 @@ fn serve_journalled<R: Threads + Wait + Sync>(
     script: &[u8],
     folder: &mut MemoryFolder,
 ) -> Result<Result<u64, ServeFault>, Fail> {
-    let mut source = office(alloc, ONE_TABLE, script)?;
+    let today = day_of(1987, 3, 15).ok_or("a date")?;
     let path = Bytes::from_slice(alloc, SETUP)?;
+    let mut source = office(alloc, ONE_TABLE, script)?;
     let asked = Asked {
         setup: &path,
-        today: day_of(1987, 3, 15).ok_or("a date")?,
+        today,
         reindex: false,
         journal: true,
     };
     let served = serve_asked(rt, alloc, &asked, &mut source, folder, &OpenGate);
     Ok(performed(served))
+}
+
+// Serves a script of `count` commands, and has the journal written.
+fn serve_count<R: Threads + Wait + Sync>(
+    rt: &R,
+    alloc: Global,
+    script: &[u8],
+    count: u64,
+    folder: &mut MemoryFolder,
+) -> Result<(), Fail> {
+    expect_count(serve_journalled(rt, alloc, script, folder)?, count)
 }
 
 // What a folder has after a run of `count` commands whose journal is written.
@@ -80,10 +94,8 @@ fn folder_with_journal<R: Threads + Wait + Sync>(
     count: u64,
 ) -> Result<MemoryFolder, Fail> {
     let mut folder = MemoryFolder::new(alloc);
-    match serve_journalled(rt, alloc, script, &mut folder)? {
-        Ok(performed) if performed == count => Ok(folder),
-        _ => Err("another count of commands".into()),
-    }
+    serve_count(rt, alloc, script, count, &mut folder)?;
+    Ok(folder)
 }
 
 #[test]
@@ -93,13 +105,21 @@ fn journal_is_the_last_file(rt: HostRuntime) -> Result<(), Fail> {
     Ok(())
 }
 
+// Whether a run that writes its journal has the two files of one without it first.
+fn has_plain_files<R: Threads + Wait + Sync>(
+    rt: &R,
+    alloc: Global,
+    plain: &MemoryFolder,
+) -> Result<bool, Fail> {
+    let folder = folder_with_journal(rt, alloc, SCRIPT, 11)?;
+    Ok(plain.files.len() == 2 && begins_with(&folder, plain))
+}
+
 // The other files are those of a run without it.
 #[test]
 fn journal_changes_no_other_file(rt: HostRuntime) -> Result<(), Fail> {
-    let alloc = rt.alloc();
-    let plain = folder_of(&rt, alloc, ONE_TABLE, SCRIPT, 11)?;
-    let folder = folder_with_journal(&rt, alloc, SCRIPT, 11)?;
-    assert!(rt; plain.files.len() == 2 && begins_with(&folder, &plain));
+    let plain = folder_of(&rt, rt.alloc(), ONE_TABLE, SCRIPT, 11)?;
+    assert!(rt; has_plain_files(&rt, rt.alloc(), &plain)?);
     Ok(())
 }
 
@@ -143,6 +163,20 @@ wrote 12 5 636a604fee2852c4949a85b097311d98100a2823e56516a24fe5c91c79e2cdca STAT
 end
 ";
 
+// Whether the run of two commands comes to its end in a folder of this many calls, which takes this many bytes a call at
+// most.
+fn ends_in<R: Threads + Wait + Sync>(
+    rt: &R,
+    alloc: Global,
+    calls: u64,
+    most: usize,
+    whole: &MemoryFolder,
+) -> Result<bool, Fail> {
+    let mut folder = failing_folder(alloc, calls, most);
+    let served = serve_journalled(rt, alloc, TWO_LINES, &mut folder)?;
+    is_done(served, &folder, whole)
+}
+
 // How many calls of the folder the run needs: one after another is the first that fails until none does, and each time what
 // is left is looked at.
 fn calls_of_run<R: Threads + Wait + Sync>(
@@ -152,14 +186,8 @@ fn calls_of_run<R: Threads + Wait + Sync>(
     whole: &MemoryFolder,
 ) -> Result<u64, Fail> {
     for calls in 0..1_000 {
-        let mut folder = failing_folder(alloc, calls, most);
-        let served = serve_journalled(rt, alloc, TWO_LINES, &mut folder)?;
-        if served == Ok(2) {
+        if ends_in(rt, alloc, calls, most, whole)? {
             return Ok(calls);
-        }
-        match unwritten(served) {
-            Some(name) if is_cut_at(&folder, whole, name.as_slice()) => {}
-            _ => return Err("another ending".into()),
         }
     }
     Err("too many calls".into())
@@ -174,14 +202,17 @@ fn whole_folder<R: Threads + Wait + Sync>(rt: &R, alloc: Global) -> Result<Memor
     Err("another journal".into())
 }
 
+// How many calls the run needs of a folder that takes all bytes in one call, and of one that takes 32.
+fn calls_of_both<R: Threads + Wait + Sync>(rt: &R, alloc: Global) -> Result<[u64; 2], Fail> {
+    let whole = whole_folder(rt, alloc)?;
+    let calls = calls_of_run(rt, alloc, usize::MAX, &whole)?;
+    Ok([calls, calls_of_run(rt, alloc, 32, &whole)?])
+}
+
 // The files have 88, 5 and 476 bytes. The calls are three of begin, and of write one for each 32 bytes or part of them, or one
 // a file.
 #[test]
 fn each_call_of_the_folder_fails_in_turn(rt: HostRuntime) -> Result<(), Fail> {
-    let alloc = rt.alloc();
-    let whole = whole_folder(&rt, alloc)?;
-    for (most, calls) in [(usize::MAX, 6), (32, 22)] {
-        assert_eq!(rt; calls_of_run(&rt, alloc, most, &whole)?, calls);
-    }
+    assert_eq!(rt; calls_of_both(&rt, rt.alloc())?, [6, 22]);
     Ok(())
 }

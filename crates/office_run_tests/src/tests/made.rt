@@ -1,7 +1,7 @@
 //! Indexes that a station makes: what it is answered, the files that are written of them, and a run that opens these.
 
-use crate::tests::{has_file, named, office, serve_in};
-use folders::MemoryFolder;
+use crate::tests::{add, add_folder, folder_from, has_file, office};
+use folders::{MemoryFolder, MemorySource};
 use sample_files::with_zeros;
 use std::alloc::{AllocError, Global};
 use std::sync::Wait;
@@ -104,15 +104,17 @@ fn index_file(alloc: Global, expression: &[u8]) -> Result<Vec<u8>, AllocError> {
     with_zeros(alloc, bytes.as_slice(), 1_024)
 }
 
+// The office with the table, whose indexes are to be made.
+fn office_of_names(alloc: Global) -> Result<MemorySource, AllocError> {
+    let mut source = office(alloc, SETUP, SCRIPT)?;
+    add(alloc, &mut source.files, b"names.dbf", &NAMES)?;
+    Ok(source)
+}
+
 // What is written by the run in which the indexes are made.
 fn folder_of_made<R: Threads + Wait + Sync>(rt: &R, alloc: Global) -> Result<MemoryFolder, Fail> {
-    let mut source = office(alloc, SETUP, SCRIPT)?;
-    source.files.push(named(alloc, b"names.dbf", &NAMES)?)?;
-    let mut folder = MemoryFolder::new(alloc);
-    match serve_in(rt, alloc, &mut source, 1987, false, &mut folder)? {
-        Ok(19) => Ok(folder),
-        _ => Err("another end of the run".into()),
-    }
+    let mut source = office_of_names(alloc)?;
+    folder_from(rt, alloc, &mut source, false, 19)
 }
 
 // The place of the first index whose file isn't the one that is meant: X by its own text, the others by NAME.
@@ -131,35 +133,56 @@ fn first_other_file(alloc: Global, folder: &MemoryFolder) -> Result<Option<usize
     Ok(None)
 }
 
+// Whether a folder has the table, the indexes and this file of answers alone.
+fn has_made(alloc: Global, folder: &MemoryFolder, answers: &[u8]) -> Result<bool, Fail> {
+    let are_indexes = first_other_file(alloc, folder)?.is_none();
+    Ok(
+        are_indexes
+            && folder.files.len() == 9
+            && has_file(folder, 0, b"T.DBF", &NAMES)
+            && has_file(folder, 8, b"STATION1.TXT", answers),
+    )
+}
+
 #[test]
 fn made_indexes_are_written(rt: HostRuntime) -> Result<(), Fail> {
-    let alloc = rt.alloc();
-    let folder = folder_of_made(&rt, alloc)?;
-    assert_eq!(rt; folder.files.len(), 9);
-    assert!(rt; has_file(&folder, 0, b"T.DBF", &NAMES));
-    assert_eq!(rt; first_other_file(alloc, &folder)?, None);
-    assert!(rt; has_file(&folder, 8, b"STATION1.TXT", ANSWERS));
+    let folder = folder_of_made(&rt, rt.alloc())?;
+    assert!(rt; has_made(rt.alloc(), &folder, ANSWERS)?);
     Ok(())
+}
+
+// The office with the files that were written.
+fn office_of_made(alloc: Global, written: &MemoryFolder) -> Result<MemorySource, AllocError> {
+    let script = b"USE T\nSET ORDER TO 7\nGO TOP\n? RECNO()\n";
+    let mut source = office(alloc, SETUP_AGAIN, script)?;
+    add_folder(alloc, &mut source.files, written)?;
+    Ok(source)
+}
+
+// What a run writes that opens them.
+fn folder_of_opened<R: Threads + Wait + Sync>(
+    rt: &R,
+    alloc: Global,
+    written: &MemoryFolder,
+) -> Result<MemoryFolder, Fail> {
+    let mut source = office_of_made(alloc, written)?;
+    folder_from(rt, alloc, &mut source, false, 4)
+}
+
+// Whether that run opens each index, and writes the same ones.
+fn are_opened<R: Threads + Wait + Sync>(
+    rt: &R,
+    alloc: Global,
+    written: &MemoryFolder,
+) -> Result<bool, Fail> {
+    let folder = folder_of_opened(rt, alloc, written)?;
+    has_made(alloc, &folder, b"OK\nOK\nOK\n2\n")
 }
 
 // The files of the first run are those of the second, which finds each index to be of its table.
 #[test]
 fn made_indexes_are_opened_again(rt: HostRuntime) -> Result<(), Fail> {
-    let alloc = rt.alloc();
-    let written = folder_of_made(&rt, alloc)?;
-    let mut source = office(
-        alloc,
-        SETUP_AGAIN,
-        b"USE T\nSET ORDER TO 7\nGO TOP\n? RECNO()\n",
-    )?;
-    for file in &written.files {
-        let file = named(alloc, file.name.as_slice(), file.bytes.as_slice())?;
-        source.files.push(file)?;
-    }
-    let mut folder = MemoryFolder::new(alloc);
-    let served = serve_in(&rt, alloc, &mut source, 1987, false, &mut folder)?;
-    assert_eq!(rt; served, Ok(4));
-    assert_eq!(rt; first_other_file(alloc, &folder)?, None);
-    assert!(rt; has_file(&folder, 8, b"STATION1.TXT", b"OK\nOK\nOK\n2\n"));
+    let written = folder_of_made(&rt, rt.alloc())?;
+    assert!(rt; are_opened(&rt, rt.alloc(), &written)?);
     Ok(())
 }

@@ -1,6 +1,6 @@
 //! A setup of as many entries as there can be: ten tables with seven indexes each, and sixteen stations.
 
-use crate::tests::{has_file, office, serve_in};
+use crate::tests::{folder_from, has_file, office};
 use folders::MemoryFolder;
 use std::alloc::{AllocError, Global};
 use std::sync::Wait;
@@ -49,17 +49,18 @@ fn first_missing(alloc: Global, folder: &MemoryFolder) -> Result<Option<usize>, 
 // What is written of the whole setup, whose indexes are made anew.
 fn whole<R: Threads + Wait + Sync>(rt: &R, alloc: Global) -> Result<MemoryFolder, Fail> {
     let mut source = office(alloc, setup(alloc)?.as_slice(), SCRIPT)?;
-    let mut folder = MemoryFolder::new(alloc);
-    match serve_in(rt, alloc, &mut source, 1987, true, &mut folder)? {
-        Ok(96) => Ok(folder),
-        _ => Err("another count of commands".into()),
-    }
+    folder_from(rt, alloc, &mut source, true, 96)
+}
+
+// Whether a folder has a file of each entry, those of the stations last.
+fn has_all(alloc: Global, folder: &MemoryFolder) -> Result<bool, AllocError> {
+    let missing = first_missing(alloc, folder)?;
+    Ok(missing.is_none() && folder.files.len() == 96)
 }
 
 #[test]
 fn setup_of_96_entries_is_served(rt: HostRuntime) -> Result<(), Fail> {
     let folder = whole(&rt, rt.alloc())?;
-    assert_eq!(rt; folder.files.len(), 96);
-    assert_eq!(rt; first_missing(rt.alloc(), &folder)?, None);
+    assert!(rt; has_all(rt.alloc(), &folder)?);
     Ok(())
 }

@@ -1,6 +1,6 @@
 //! An index that is not its table's.
 
-use crate::tests::{has_file, office, serve_in};
+use crate::tests::{expect_count, has_file, office, serve_in};
 use catalogue_core::OpenFault;
 use folders::MemoryFolder;
 use office_run::ServeFault;
@@ -38,14 +38,36 @@ fn served<R: Threads + Wait + Sync>(
     serve_in(rt, alloc, &mut source, 1987, reindex, folder)
 }
 
+// Whether a run finds the index stale, and begins no file.
+fn is_refused<R: Threads + Wait + Sync>(
+    rt: &R,
+    alloc: Global,
+    folder: &mut MemoryFolder,
+) -> Result<bool, Fail> {
+    let fault = served(rt, alloc, false, folder)?.err();
+    let stale = Some(ServeFault::Refused(OpenFault::IndexStale(1, 1)));
+    Ok(fault == stale && folder.files.is_empty())
+}
+
+// Whether a run that makes the index anew writes it with all pairs.
+fn is_made_anew<R: Threads + Wait + Sync>(
+    rt: &R,
+    alloc: Global,
+    folder: &mut MemoryFolder,
+) -> Result<bool, Fail> {
+    expect_count(served(rt, alloc, true, folder)?, 3)?;
+    let wanted = index(alloc)?;
+    Ok(has_file(folder, 1, b"X.NDX", wanted.as_slice()))
+}
+
+// Whether the index is refused, and then made anew into the same folder.
+fn is_refused_and_made_anew<R: Threads + Wait + Sync>(rt: &R, alloc: Global) -> Result<bool, Fail> {
+    let mut folder = MemoryFolder::new(alloc);
+    Ok(is_refused(rt, alloc, &mut folder)? && is_made_anew(rt, alloc, &mut folder)?)
+}
+
 #[test]
 fn stale_index_is_refused_unless_it_is_to_be_made_anew(rt: HostRuntime) -> Result<(), Fail> {
-    let alloc = rt.alloc();
-    let stale = ServeFault::Refused(OpenFault::IndexStale(1, 1));
-    let mut folder = MemoryFolder::new(alloc);
-    assert_eq!(rt; served(&rt, alloc, false, &mut folder)?, Err(stale));
-    assert_eq!(rt; folder.files.len(), 0);
-    assert_eq!(rt; served(&rt, alloc, true, &mut folder)?, Ok(3));
-    assert!(rt; has_file(&folder, 1, b"X.NDX", index(alloc)?.as_slice()));
+    assert!(rt; is_refused_and_made_anew(&rt, rt.alloc())?);
     Ok(())
 }

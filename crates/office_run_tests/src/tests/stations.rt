@@ -11,9 +11,10 @@ use catalogue_core::{Answer, Catalogue, Command, OpenFault, Refusal, Stop, Table
 use dbf_image::{TableData, read_table};
 use key_expr::ExprFault;
 use office_run::RunFault;
-use sample_files::{NOTE, TABLE, table, with_zeros};
+use sample_files::{EMPTY, NOTE, TABLE, table, with_zeros};
 use shared_catalogue::SettleFault;
 use std::alloc::{AllocError, Global};
+use std::process::Abort;
 use std::test::Fail;
 
 // A table under a name.
@@ -28,6 +29,11 @@ fn named(alloc: Global, name: &[u8], content: TableData) -> Result<TableSource, 
 // The sample's table under a name.
 fn source(alloc: Global, name: &[u8]) -> Result<TableSource, Fail> {
     Ok(named(alloc, name, table(alloc, &TABLE)?)?)
+}
+
+// The table without records, under the name L.
+fn empty_source(alloc: Global) -> Result<TableSource, Fail> {
+    Ok(named(alloc, b"L", table(alloc, &EMPTY)?)?)
 }
 
 // The table of one memo, of which the first record has a text of `length` bytes, under the name T.
@@ -53,13 +59,22 @@ fn answer_of(alloc: Global, catalogue: &mut Catalogue, command: &Command) -> Res
     Ok(answer)
 }
 
+// The answer to a first command.
+fn first_answer(alloc: Global, command: &Command) -> Result<Answer, Fail> {
+    let mut catalogue = open_sample(alloc)?;
+    answer_of(alloc, &mut catalogue, command)
+}
+
 #[test]
 fn bad_command_is_refused(rt: HostRuntime) -> Result<(), Fail> {
-    let alloc = rt.alloc();
-    let mut catalogue = open_sample(alloc)?;
-    let answer = answer_of(alloc, &mut catalogue, &Command::Bad)?;
+    let answer = first_answer(rt.alloc(), &Command::Bad)?;
     assert_eq!(rt; answer, Answer::Refused(Refusal::BadCommand));
     Ok(())
+}
+
+// Asserts that a fault is shown by this text.
+fn assert_shown(rt: &impl Abort, shown: &str, text: &str) {
+    assert_eq!(rt; shown, text);
 }
 
 #[test]
@@ -86,8 +101,7 @@ fn faults_of_opening_have_their_texts(rt: HostRuntime) -> Result<(), Fail> {
         (OpenFault::NoMemory, "out of memory"),
     ];
     for (fault, text) in cases {
-        let shown = format!(in alloc; "{fault}")?;
-        assert_eq!(rt; shown.as_str(), text);
+        assert_shown(&rt, format!(in alloc; "{fault}")?.as_str(), text);
     }
     Ok(())
 }
@@ -120,8 +134,7 @@ fn faults_of_a_run_have_their_texts(rt: HostRuntime) -> Result<(), Fail> {
         (RunFault::NoMemory, "out of memory"),
     ];
     for (fault, text) in cases {
-        let shown = format!(in alloc; "{fault}")?;
-        assert_eq!(rt; shown.as_str(), text);
+        assert_shown(&rt, format!(in alloc; "{fault}")?.as_str(), text);
     }
     Ok(())
 }

@@ -3,7 +3,7 @@
 use super::long_note;
 use super::runs::{joined, ran, run_on};
 use byte_io::Bytes;
-use office_run::OpenGate;
+use office_run::{OpenGate, Outcome};
 use std::alloc::{AllocError, Global};
 use std::sync::Wait;
 use std::test::Fail;
@@ -18,15 +18,24 @@ fn many(alloc: Global, first: &[u8], line: &[u8]) -> Result<Vec<u8>, AllocError>
     Ok(text)
 }
 
+// What a run of so many lines has answered, and how many entries its journal has.
+fn ran_many<R: Threads + Wait + Sync>(rt: &R, alloc: Global) -> Result<(Vec<u8>, u64), Fail> {
+    let script = many(alloc, b"USE T\n", b"? RECCOUNT()\n")?;
+    ran(rt, alloc, 1, &[script.as_slice()], &OpenGate)
+}
+
+// The answers to them.
+fn many_answers(alloc: Global) -> Result<Vec<u8>, AllocError> {
+    let mut answers = many(alloc, b"OK\n", b"2\n")?;
+    answers.push(b';')?;
+    Ok(answers)
+}
+
 #[test]
 fn script_of_100_002_lines_runs_to_its_end(rt: HostRuntime) -> Result<(), Fail> {
-    let alloc = rt.alloc();
-    let script = many(alloc, b"USE T\n", b"? RECCOUNT()\n")?;
-    let mut wanted = many(alloc, b"OK\n", b"2\n")?;
-    wanted.push(b';')?;
-    let (answers, entries) = ran(&rt, alloc, 1, &[script.as_slice()], &OpenGate)?;
-    assert!(rt; answers.as_slice() == wanted.as_slice());
-    assert_eq!(rt; entries, 100_002);
+    let wanted = many_answers(rt.alloc())?;
+    let (answers, entries) = ran_many(&rt, rt.alloc())?;
+    assert!(rt; answers.as_slice() == wanted.as_slice() && entries == 100_002);
     Ok(())
 }
 
@@ -53,17 +62,37 @@ fn long_lines(alloc: Global, length: usize) -> Result<Vec<u8>, AllocError> {
     Ok(script)
 }
 
+// What a run of that script leaves.
+fn outcome_of<R: Threads + Wait + Sync>(
+    rt: &R,
+    alloc: Global,
+    length: usize,
+) -> Result<Outcome, Fail> {
+    let script = long_lines(alloc, length)?;
+    let scripts = vec![in alloc; Bytes::from_vec(script)]?;
+    let table = long_note(alloc, 3)?;
+    Ok(run_on(rt, alloc, table, 1, &scripts, &OpenGate)??)
+}
+
 // The answers to that script.
 fn answers_to<R: Threads + Wait + Sync>(
     rt: &R,
     alloc: Global,
     length: usize,
 ) -> Result<Vec<u8>, Fail> {
-    let script = long_lines(alloc, length)?;
-    let scripts = vec![in alloc; Bytes::from_vec(script)]?;
-    let table = long_note(alloc, 3)?;
-    let outcome = run_on(rt, alloc, table, 1, &scripts, &OpenGate)??;
+    let outcome = outcome_of(rt, alloc, length)?;
     Ok(joined(alloc, &outcome.answers)?)
+}
+
+// Whether a memo's text of `length` bytes is read whole, and the remark before it.
+fn is_read_whole<R: Threads + Wait + Sync>(
+    rt: &R,
+    alloc: Global,
+    length: usize,
+) -> Result<bool, Fail> {
+    let wanted = between(alloc, b"OK\nOK\n", length, b"\n;")?;
+    let answers = answers_to(rt, alloc, length)?;
+    Ok(answers.as_slice() == wanted.as_slice())
 }
 
 // A memo has 65,535 bytes at most, and no line is too long.
@@ -71,9 +100,7 @@ fn answers_to<R: Threads + Wait + Sync>(
 fn lines_of_any_length_are_read_whole(rt: HostRuntime) -> Result<(), Fail> {
     let alloc = rt.alloc();
     for length in [238, 239, 254, 255, 256, 65_535] {
-        let wanted = between(alloc, b"OK\nOK\n", length, b"\n;")?;
-        let answers = answers_to(&rt, alloc, length)?;
-        assert!(rt; answers.as_slice() == wanted.as_slice(), "at {length}");
+        assert!(rt; is_read_whole(&rt, alloc, length)?, "at {length}");
     }
     let answers = answers_to(&rt, alloc, 65_536)?;
     assert_eq!(rt;

@@ -1,15 +1,11 @@
 //! Status rows as stations are shown them.
 
-use super::named;
-use super::runs::{InOrder, ran, run_on};
+use super::runs::{InOrder, assert_ran, ran, run_sixteen};
 use byte_io::Bytes;
-use office_run::{OpenGate, Outcome};
-use sample_files::{EMPTY, table};
+use office_run::Outcome;
 use station_lines::lines;
 use std::alloc::{AllocError, Global};
-use std::sync::Wait;
 use std::test::Fail;
-use std::thread::Threads;
 
 // The last line of station 1 is run after all others: its own last call was the sixth.
 #[test]
@@ -19,12 +15,11 @@ fn status_after_seven_calls(rt: HostRuntime) -> Result<(), Fail> {
         b"USE T\n? RLOCK()\nUNLOCK\nDISPLAY STATUS\n",
         b"USE T\n? RLOCK()\nREPLACE NAME WITH \"X\"\n? RLOCK()\n",
     ];
-    let (answers, entries) = ran(&rt, rt.alloc(), 2, &scripts, &gate)?;
+    let found = ran(&rt, rt.alloc(), 2, &scripts, &gate)?;
     let wanted =
         b"OK\n.T.\nOK\nSTATUS 7 2 2 0 1 0 0 0 0 0 0 0 0 0 0 0 0 0 0 0 0 0 0\n;OK\n.F.\nREFUSED 5 NotLocked\n.T.\n;";
-    assert_eq!(rt; answers.as_slice(), wanted.as_slice());
-    assert_eq!(rt; entries, 7);
-    assert_eq!(rt; gate.overruns(), 0);
+    assert_ran(&rt, &found, wanted, 7);
+    assert!(rt; gate.overruns() == 0);
     Ok(())
 }
 
@@ -32,13 +27,13 @@ fn status_after_seven_calls(rt: HostRuntime) -> Result<(), Fail> {
 const ROUNDS: usize = 250;
 
 // A script of 2,000 lines, of which every other shows the status row.
-fn rounds(alloc: Global) -> Result<Bytes, AllocError> {
+fn rounds(alloc: Global) -> Result<Vec<u8>, AllocError> {
     let mut text = Vec::new(alloc);
     for _ in 0..ROUNDS {
         text.extend_from_slice(b"USE L\nDISPLAY STATUS\n? FLOCK()\nDISPLAY STATUS\n")?;
         text.extend_from_slice(b"APPEND BLANK\nDISPLAY STATUS\nUNLOCK\nDISPLAY STATUS\n")?;
     }
-    Ok(Bytes::from_vec(text))
+    Ok(text)
 }
 
 // The numbers of a status row's line, each of which stands after a blank.
@@ -80,20 +75,17 @@ fn never_go_back(answers: &Bytes) -> bool {
     true
 }
 
-fn run_sixteen<R: Threads + Wait + Sync>(rt: &R, alloc: Global) -> Result<Outcome, Fail> {
-    let mut scripts = Vec::new(alloc);
-    for _ in 0..16 {
-        scripts.push(rounds(alloc)?)?;
-    }
-    let source = named(alloc, b"L", table(alloc, &EMPTY)?)?;
-    Ok(run_on(rt, alloc, source, 16, &scripts, &OpenGate)??)
+// Whether the journal has every other line, and the rows of each station's answers never go back.
+fn has_rows(outcome: &Outcome) -> bool {
+    outcome.closed.entry_count() == 16_000
+        && outcome.answers.len() == 16
+        && outcome.answers.iter().all(|answers| never_go_back(answers))
 }
 
 #[test]
 fn rows_never_go_back(rt: HostRuntime) -> Result<(), Fail> {
-    let outcome = run_sixteen(&rt, rt.alloc())?;
-    assert_eq!(rt; outcome.closed.entry_count(), 16_000);
-    assert_eq!(rt; outcome.answers.len(), 16);
-    assert!(rt; outcome.answers.iter().all(|answers| never_go_back(answers)));
+    let script = rounds(rt.alloc())?;
+    let outcome = run_sixteen(&rt, rt.alloc(), script.as_slice())?;
+    assert!(rt; has_rows(&outcome));
     Ok(())
 }

@@ -1,12 +1,12 @@
 //! Stations at work, each in a thread of its own. The answers are those of dBASE's rules on areas and locks.
 
-use super::{named, source};
+use super::{empty_source, source};
 use byte_io::Bytes;
 use catalogue_core::{Catalogue, TableSource};
 use office_run::{Gate, OpenGate, Outcome, RunFault, run_catalogue};
-use sample_files::{EMPTY, table};
 use station_lines::lines;
 use std::alloc::{AllocError, Global};
+use std::process::Abort;
 use std::sync::Wait;
 use std::sync::atomic::{AtomicU64, Ordering};
 use std::test::Fail;
@@ -137,6 +137,12 @@ pub(super) fn joined(alloc: Global, answers: &[Bytes]) -> Result<Vec<u8>, AllocE
     Ok(all)
 }
 
+// The answers of a run, joined, and how many entries its journal has.
+fn told(alloc: Global, outcome: &Outcome) -> Result<(Vec<u8>, u64), AllocError> {
+    let answers = joined(alloc, &outcome.answers)?;
+    Ok((answers, outcome.closed.entry_count()))
+}
+
 // Runs a script for each station on the sample's table, under the name T: the answers, joined, and how many
 // entries the journal has.
 pub(super) fn ran<G: Gate + Sync, R: Threads + Wait + Sync>(
@@ -148,10 +154,12 @@ pub(super) fn ran<G: Gate + Sync, R: Threads + Wait + Sync>(
 ) -> Result<(Vec<u8>, u64), Fail> {
     let scripts = texts(alloc, scripts)?;
     let outcome = run_on(rt, alloc, source(alloc, b"T")?, stations, &scripts, gate)??;
-    Ok((
-        joined(alloc, &outcome.answers)?,
-        outcome.closed.entry_count(),
-    ))
+    Ok(told(alloc, &outcome)?)
+}
+
+// Asserts the answers of a run, joined, and how many entries its journal has.
+pub(super) fn assert_ran(rt: &impl Abort, found: &(Vec<u8>, u64), answers: &[u8], entries: u64) {
+    assert_eq!(rt; (found.0.as_slice(), found.1), (answers, entries));
 }
 
 #[test]
@@ -161,11 +169,10 @@ fn two_stations_one_record(rt: HostRuntime) -> Result<(), Fail> {
         b"USE T\n? RLOCK()\nUNLOCK\n",
         b"USE T\n? RLOCK()\nREPLACE NAME WITH \"X\"\n? RLOCK()\n",
     ];
-    let (answers, entries) = ran(&rt, rt.alloc(), 2, &scripts, &gate)?;
+    let found = ran(&rt, rt.alloc(), 2, &scripts, &gate)?;
     let wanted = b"OK\n.T.\nOK\n;OK\n.F.\nREFUSED 5 NotLocked\n.T.\n;";
-    assert_eq!(rt; answers.as_slice(), wanted.as_slice());
-    assert_eq!(rt; entries, 7);
-    assert_eq!(rt; gate.overruns(), 0);
+    assert_ran(&rt, &found, wanted, 7);
+    assert!(rt; gate.overruns() == 0);
     Ok(())
 }
 
@@ -177,47 +184,57 @@ fn stations_run_side_by_side(rt: HostRuntime) -> Result<(), Fail> {
         overrun: AtomicU64::new(0),
     };
     let scripts: [&[u8]; 2] = [b"USE T\n? RECNO()\n? NAME\n", b"USE T\nGO BOTTOM\n? NAME\n"];
-    let (answers, entries) = ran(&rt, rt.alloc(), 2, &scripts, &gate)?;
+    let found = ran(&rt, rt.alloc(), 2, &scripts, &gate)?;
     let wanted = b"OK\n1\nADA       \n;OK\nOK\nBOB       \n;";
-    assert_eq!(rt; answers.as_slice(), wanted.as_slice());
-    assert_eq!(rt; entries, 6);
-    assert_eq!(rt; gate.overrun.load(Ordering::SeqCst), 0);
+    assert_ran(&rt, &found, wanted, 6);
+    assert!(rt; gate.overrun.load(Ordering::SeqCst) == 0);
     Ok(())
 }
 
 #[test]
 fn status_row(rt: HostRuntime) -> Result<(), Fail> {
     let scripts: [&[u8]; 1] = [b"USE T\nGO TOP\n? FLOCK()\nDISPLAY STATUS\n"];
-    let (answers, entries) = ran(&rt, rt.alloc(), 1, &scripts, &OpenGate)?;
+    let found = ran(&rt, rt.alloc(), 1, &scripts, &OpenGate)?;
     let wanted = b"OK\nOK\n.T.\nSTATUS 3 1 2 1 0 0 0 0 0 0 0 0 0 0 0 0 0 0 0 0 0 0 0\n;";
-    assert_eq!(rt; answers.as_slice(), wanted.as_slice());
-    assert_eq!(rt; entries, 3);
+    assert_ran(&rt, &found, wanted, 3);
     Ok(())
 }
 
 #[test]
 fn unreadable_line_is_journalled(rt: HostRuntime) -> Result<(), Fail> {
     let scripts: [&[u8]; 1] = [b"USE T\nFOO\n? RECNO()\n? NAME\n"];
-    let (answers, entries) = ran(&rt, rt.alloc(), 1, &scripts, &OpenGate)?;
+    let found = ran(&rt, rt.alloc(), 1, &scripts, &OpenGate)?;
     let wanted = b"OK\nREFUSED 19 BadCommand\n1\nADA       \n;";
-    assert_eq!(rt; answers.as_slice(), wanted.as_slice());
-    assert_eq!(rt; entries, 4);
+    assert_ran(&rt, &found, wanted, 4);
     Ok(())
+}
+
+// The fault of a run of these scripts for so many stations.
+fn fault_of<R: Threads + Wait + Sync>(
+    rt: &R,
+    alloc: Global,
+    stations: u32,
+    scripts: &[&[u8]],
+) -> Result<Option<RunFault>, Fail> {
+    let scripts = texts(alloc, scripts)?;
+    let run = run_on(
+        rt,
+        alloc,
+        source(alloc, b"T")?,
+        stations,
+        &scripts,
+        &OpenGate,
+    )?;
+    Ok(run.err())
 }
 
 #[test]
 fn script_count(rt: HostRuntime) -> Result<(), Fail> {
-    let alloc = rt.alloc();
     let line: &[u8] = b"USE T\n";
-    for (stations, two) in [(2, false), (1, true)] {
-        let scripts = if two {
-            texts(alloc, &[line, line])?
-        } else {
-            texts(alloc, &[line])?
-        };
-        let table = source(alloc, b"T")?;
-        let run = run_on(&rt, alloc, table, stations, &scripts, &OpenGate)?;
-        assert_eq!(rt; run.err(), Some(RunFault::ScriptCount));
+    let cases: [(u32, &[&[u8]]); 2] = [(2, &[line]), (1, &[line, line])];
+    for (stations, scripts) in cases {
+        let fault = fault_of(&rt, rt.alloc(), stations, scripts)?;
+        assert_eq!(rt; fault, Some(RunFault::ScriptCount));
     }
     Ok(())
 }
@@ -229,19 +246,19 @@ const ROUNDS: usize = 2_000;
 const LINES: u64 = 8_000;
 
 // A script of the rounds.
-fn rounds(alloc: Global) -> Result<Bytes, AllocError> {
+fn rounds(alloc: Global) -> Result<Vec<u8>, AllocError> {
     let mut text = Vec::new(alloc);
     for _ in 0..ROUNDS {
         text.extend_from_slice(b"USE L\n? FLOCK()\nAPPEND BLANK\nUNLOCK\n")?;
     }
-    Ok(Bytes::from_vec(text))
+    Ok(text)
 }
 
-// The scripts of 16 stations.
-fn sixteen_scripts(alloc: Global) -> Result<Vec<Bytes>, AllocError> {
+// The scripts of 16 stations, each of which is this one.
+fn sixteen_scripts(alloc: Global, script: &[u8]) -> Result<Vec<Bytes>, AllocError> {
     let mut scripts = Vec::new(alloc);
     for _ in 0..16 {
-        scripts.push(rounds(alloc)?)?;
+        scripts.push(Bytes::from_slice(alloc, script)?)?;
     }
     Ok(scripts)
 }
@@ -269,11 +286,14 @@ fn appended_by_all(answers: &[Bytes]) -> u32 {
     count
 }
 
-// Sixteen stations that append to one table together.
-fn run_sixteen<R: Threads + Wait + Sync>(rt: &R, alloc: Global) -> Result<Outcome, Fail> {
-    let scripts = sixteen_scripts(alloc)?;
-    let source = named(alloc, b"L", table(alloc, &EMPTY)?)?;
-    Ok(run_on(rt, alloc, source, 16, &scripts, &OpenGate)??)
+// Sixteen stations that run one script on the table L together.
+pub(super) fn run_sixteen<R: Threads + Wait + Sync>(
+    rt: &R,
+    alloc: Global,
+    script: &[u8],
+) -> Result<Outcome, Fail> {
+    let scripts = sixteen_scripts(alloc, script)?;
+    Ok(run_on(rt, alloc, empty_source(alloc)?, 16, &scripts, &OpenGate)??)
 }
 
 // Whether the journal has every line, and the table as many records as were appended.
@@ -286,14 +306,19 @@ fn has_all(outcome: &Outcome) -> bool {
         && closed.table(1).record_count() == count
 }
 
-#[test]
-fn sixteen_stations_count_together(rt: HostRuntime) -> Result<(), Fail> {
-    let alloc = rt.alloc();
-    let outcome = run_sixteen(&rt, alloc)?;
-    assert!(rt; has_all(&outcome));
+// Whether a run leaves all that, and hands over the one table with as many records.
+fn leaves_all(outcome: Outcome) -> bool {
+    let is_all = has_all(&outcome);
     let count = appended_by_all(&outcome.answers);
     let tables = outcome.closed.into_tables();
     let counts = tables.iter().map(|table| table.record_count());
-    assert!(rt; counts.eq([count]));
+    counts.eq([count]) && is_all
+}
+
+#[test]
+fn sixteen_stations_count_together(rt: HostRuntime) -> Result<(), Fail> {
+    let script = rounds(rt.alloc())?;
+    let outcome = run_sixteen(&rt, rt.alloc(), script.as_slice())?;
+    assert!(rt; leaves_all(outcome));
     Ok(())
 }

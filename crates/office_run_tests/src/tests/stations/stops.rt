@@ -4,7 +4,7 @@ use super::hoard::hoard;
 use super::runs::{has_come, run_on};
 use super::{long_note, source};
 use byte_io::Bytes;
-use catalogue_core::Stop;
+use catalogue_core::{Stop, TableSource};
 use office_run::{Gate, OpenGate, RunFault};
 use std::alloc::{AllocError, Global};
 use std::sync::Wait;
@@ -44,6 +44,22 @@ fn script(alloc: Global, hungry: bool) -> Result<Bytes, AllocError> {
     Ok(Bytes::from_vec(text))
 }
 
+// The fault of a run on a table, a station a script, where all memory is taken but `rooms.0` rooms of `rooms.1` bytes.
+fn fault_in<G: Gate + Sync, R: Threads + Wait + Sync>(
+    rt: &R,
+    alloc: Global,
+    rooms: (usize, usize),
+    table: TableSource,
+    stations: u32,
+    scripts: &[Bytes],
+    gate: &G,
+) -> Result<Option<RunFault>, Fail> {
+    let held = hoard(alloc, rooms.0, rooms.1)?;
+    let run = run_on(rt, alloc, table, stations, scripts, gate)?;
+    drop(held);
+    Ok(run.err())
+}
+
 // The fault of a run of two stations in 128 MB, where some want more.
 fn fault_of<R: Threads + Wait + Sync>(
     rt: &R,
@@ -55,10 +71,7 @@ fn fault_of<R: Threads + Wait + Sync>(
     let gate = FirstLines {
         done: AtomicU64::new(0),
     };
-    let held = hoard(alloc, 4, 1 << 25)?;
-    let run = run_on(rt, alloc, table, 2, &scripts, &gate)?;
-    drop(held);
-    Ok(run.err())
+    fault_in(rt, alloc, (4, 1 << 25), table, 2, &scripts, &gate)
 }
 
 #[test]
@@ -72,21 +85,32 @@ fn lowest_stopped_station_is_named(rt: HostRuntime) -> Result<(), Fail> {
     Ok(())
 }
 
+// As many empty scripts as stations.
+fn empty_scripts(alloc: Global, stations: u32) -> Result<Vec<Bytes>, AllocError> {
+    let mut scripts = Vec::new(alloc);
+    for _ in 0..stations {
+        scripts.push(Bytes::from_slice(alloc, b"")?)?;
+    }
+    Ok(scripts)
+}
+
 // The fault of a run of empty scripts in 1 MB, where no thread finds room for its stack.
 fn fault_without_threads<R: Threads + Wait + Sync>(
     rt: &R,
     alloc: Global,
     stations: u32,
 ) -> Result<Option<RunFault>, Fail> {
-    let mut scripts = Vec::new(alloc);
-    for _ in 0..stations {
-        scripts.push(Bytes::from_slice(alloc, b"")?)?;
-    }
+    let scripts = empty_scripts(alloc, stations)?;
     let table = source(alloc, b"T")?;
-    let held = hoard(alloc, 1, 1 << 20)?;
-    let run = run_on(rt, alloc, table, stations, &scripts, &OpenGate)?;
-    drop(held);
-    Ok(run.err())
+    fault_in(
+        rt,
+        alloc,
+        (1, 1 << 20),
+        table,
+        stations,
+        &scripts,
+        &OpenGate,
+    )
 }
 
 #[test]
