@@ -37,15 +37,30 @@ fn named(alloc: Global, name: &[u8], bytes: &[u8]) -> Result<NamedFile, AllocErr
     })
 }
 
-// A setup, a table without records, its index, and a script.
-fn inputs(alloc: Global) -> Result<MemorySource, AllocError> {
+// Puts a file after others.
+fn add(
+    alloc: Global,
+    files: &mut Vec<NamedFile>,
+    name: &[u8],
+    bytes: &[u8],
+) -> Result<(), AllocError> {
+    files.push(named(alloc, name, bytes)?)?;
+    Ok(())
+}
+
+// Puts a setup, a table without records, its index, and a script after other files.
+fn add_inputs(alloc: Global, files: &mut Vec<NamedFile>) -> Result<(), AllocError> {
     let index = with_zeros(alloc, &EMPTY_INDEX, 1024)?;
-    let files = vec![in alloc;
-        named(alloc, b"S.SET", SETUP)?,
-        named(alloc, b"t.dbf", &EMPTY)?,
-        named(alloc, b"x.ndx", index.as_slice())?,
-        named(alloc, b"s.prg", SCRIPT)?,
-    ]?;
+    add(alloc, files, b"S.SET", SETUP)?;
+    add(alloc, files, b"t.dbf", &EMPTY)?;
+    add(alloc, files, b"x.ndx", index.as_slice())?;
+    add(alloc, files, b"s.prg", SCRIPT)
+}
+
+// A source of those files.
+fn inputs(alloc: Global) -> Result<MemorySource, AllocError> {
+    let mut files = Vec::with_capacity(alloc, 4)?;
+    add_inputs(alloc, &mut files)?;
     Ok(MemorySource {
         files,
         loads: u64::MAX,
@@ -66,21 +81,37 @@ struct Office {
 // How many runs are written at most.
 const WRITTEN: usize = 3;
 
-fn make_folders(alloc: Global) -> Result<Vec<MemoryFolder>, AllocError> {
-    let mut folders = Vec::with_capacity(alloc, WRITTEN)?;
+// Puts the folders for all runs that are written after others.
+fn add_folders(alloc: Global, folders: &mut Vec<MemoryFolder>) -> Result<(), AllocError> {
     for _ in 0..WRITTEN {
         folders.push(MemoryFolder::with_room(alloc, 3, 12, 2048)?)?;
     }
+    Ok(())
+}
+
+fn make_folders(alloc: Global) -> Result<Vec<MemoryFolder>, AllocError> {
+    let mut folders = Vec::with_capacity(alloc, WRITTEN)?;
+    add_folders(alloc, &mut folders)?;
     Ok(folders)
 }
 
+// The folders for all runs, and room for those that were written.
+fn make_rooms(alloc: Global) -> Result<(Vec<MemoryFolder>, Vec<MemoryFolder>), AllocError> {
+    let written = Vec::with_capacity(alloc, WRITTEN)?;
+    Ok((make_folders(alloc)?, written))
+}
+
 fn make_office(alloc: Global) -> Result<Office, Fail> {
+    let today = day_of(1987, 3, 15).ok_or("a date")?;
+    let setup = Bytes::from_slice(alloc, b"S.SET")?;
+    let source = inputs(alloc)?;
+    let (folders, written) = make_rooms(alloc)?;
     Ok(Office {
-        setup: Bytes::from_slice(alloc, b"S.SET")?,
-        today: day_of(1987, 3, 15).ok_or("a date")?,
-        source: inputs(alloc)?,
-        folders: make_folders(alloc)?,
-        written: Vec::with_capacity(alloc, WRITTEN)?,
+        setup,
+        today,
+        source,
+        folders,
+        written,
     })
 }
 
@@ -136,6 +167,11 @@ fn is_whole(count: u64, folder: &MemoryFolder) -> bool {
     count == 5 && folder.files.len() == 3 && folder.files[2].bytes.as_slice() == ANSWERS
 }
 
+// Puts a folder after others, where it is as it is to be; false where it isn't.
+fn keep(folders: &mut Vec<MemoryFolder>, folder: MemoryFolder, is_right: bool) -> bool {
+    folders.push(folder).is_ok() && is_right
+}
+
 // How a run into one of the folders ends: with all files, or before a file is begun.
 fn attempt_of<R: Threads + Wait + Sync>(
     rt: &R,
@@ -160,11 +196,11 @@ fn attempt_of<R: Threads + Wait + Sync>(
     ) {
         Ok(counts) => {
             let is_right = is_whole(counts.all, &folder);
-            Attempt::right_if(is_right && office.written.push(folder).is_ok())
+            Attempt::right_if(keep(&mut office.written, folder, is_right))
         }
         Err(fault) => {
             let is_kept = ends.count(&fault) && folder.files.is_empty();
-            Attempt::refused_if(is_kept && office.folders.push(folder).is_ok())
+            Attempt::refused_if(keep(&mut office.folders, folder, is_kept))
         }
     }
 }
@@ -209,16 +245,21 @@ fn one_deeper<'a, S: ByteSink + Drop>(table: &'a TableData, day: Day, inner: S) 
     Deeper { table, day, inner }
 }
 
+// Writes a table into a sink that does so for each piece too, six deep.
+fn write_deep(alloc: Global, table: &TableData, day: Day) -> Result<(), Fail> {
+    let second = one_deeper(table, day, MemorySink::new(alloc));
+    let third = one_deeper(table, day, second);
+    let fourth = one_deeper(table, day, third);
+    let fifth = one_deeper(table, day, fourth);
+    let mut sixth = one_deeper(table, day, fifth);
+    write_dbf(&mut sixth, table, day)?;
+    Ok(())
+}
+
 // Makes the stack grow to more than what a run takes of it, since a hoard leaves it no room.
 fn grow_stack(alloc: Global, day: Day) -> Result<(), Fail> {
     let table = read_table(alloc, Bytes::from_slice(alloc, &EMPTY)?, None)?;
-    let second = one_deeper(&table, day, MemorySink::new(alloc));
-    let third = one_deeper(&table, day, second);
-    let fourth = one_deeper(&table, day, third);
-    let fifth = one_deeper(&table, day, fourth);
-    let mut sixth = one_deeper(&table, day, fifth);
-    write_dbf(&mut sixth, &table, day)?;
-    Ok(())
+    write_deep(alloc, &table, day)
 }
 
 // How often runs of the office are refused memory before they end as they are to.
@@ -243,15 +284,33 @@ fn is_as_with_ample_memory<R: Threads + Wait + Sync>(
         && are_same(&office.written)
 }
 
+// How often runs of an office are refused memory, and whether one with ample memory is right after them.
+fn judged<R: Threads + Wait + Sync>(
+    rt: &R,
+    alloc: Global,
+    office: &mut Office,
+    ends: &mut Ends,
+) -> Result<(Option<ThreadRefusals>, bool), Fail> {
+    grow_stack(alloc, office.today)?;
+    let found = swept(rt, alloc, office, ends);
+    let is_right = is_as_with_ample_memory(rt, alloc, office, ends);
+    Ok((found, is_right))
+}
+
+// Both of an office of its own, which is gone before anything is printed.
+fn judged_office<R: Threads + Wait + Sync>(
+    rt: &R,
+    alloc: Global,
+    ends: &mut Ends,
+) -> Result<(Option<ThreadRefusals>, bool), Fail> {
+    let mut office = make_office(alloc)?;
+    judged(rt, alloc, &mut office, ends)
+}
+
 #[test]
 fn serve_where_memory_is_refused(rt: HostRuntime) -> Result<(), Fail> {
-    let alloc = rt.alloc();
-    let mut office = make_office(alloc)?;
     let mut ends = Ends::none();
-    grow_stack(alloc, office.today)?;
-    let found = swept(&rt, alloc, &mut office, &mut ends);
-    let is_right = is_as_with_ample_memory(&rt, alloc, &mut office, &mut ends);
-    drop(office);
+    let (found, is_right) = judged_office(&rt, rt.alloc(), &mut ends)?;
     println!(rt; "{found:?}, {ends:?}")?;
     assert!(rt; is_right && found.is_some() && ends.are_all_met());
     Ok(())

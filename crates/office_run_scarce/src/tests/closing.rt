@@ -22,11 +22,19 @@ fn schema(alloc: Global) -> Result<Schema, Fail> {
     Ok(Schema::new(alloc, &[name, note])?)
 }
 
-// The empty index NAMES on NAME.
-fn index(alloc: Global) -> Result<ClosedIndex, Fail> {
-    let name = Bytes::from_slice(alloc, b"NAMES")?;
-    let expr = KeyExpr::parse(alloc, b"NAME", &schema(alloc)?)?;
-    let index = OrderedIndex::new(alloc, 3);
+// The key expression NAME.
+fn expression(alloc: Global) -> Result<KeyExpr, Fail> {
+    let schema = schema(alloc)?;
+    Ok(KeyExpr::parse(alloc, b"NAME", &schema)?)
+}
+
+// An index with the pairs of this one.
+fn closed_index(
+    alloc: Global,
+    name: Bytes,
+    expr: KeyExpr,
+    index: &OrderedIndex,
+) -> Result<ClosedIndex, Fail> {
     let pairs = index.pairs(alloc)?;
     if pairs.len() > MAX_PAIRS || index.key_len() != expr.key_len() {
         return Err("keys of another length".into());
@@ -34,19 +42,48 @@ fn index(alloc: Global) -> Result<ClosedIndex, Fail> {
     Ok(ClosedIndex::new(name, expr, pairs))
 }
 
+// The empty index NAMES on NAME.
+fn index(alloc: Global) -> Result<ClosedIndex, Fail> {
+    let name = Bytes::from_slice(alloc, b"NAMES")?;
+    let expr = expression(alloc)?;
+    closed_index(alloc, name, expr, &OrderedIndex::new(alloc, 3))
+}
+
+// That index alone.
+fn indexes(alloc: Global) -> Result<Vec<ClosedIndex>, Fail> {
+    Ok(vec![in alloc; index(alloc)?]?)
+}
+
 // The table T, without records, with that index.
-fn tables(alloc: Global) -> Result<Vec<ClosedTable>, Fail> {
-    let table = ClosedTable {
-        name: Bytes::from_slice(alloc, b"T")?,
+fn table(alloc: Global) -> Result<ClosedTable, Fail> {
+    let name = Bytes::from_slice(alloc, b"T")?;
+    let indexes = indexes(alloc)?;
+    Ok(ClosedTable {
+        name,
         content: TableData::empty(alloc, schema(alloc)?),
-        indexes: vec![in alloc; index(alloc)?]?,
-    };
-    Ok(vec![in alloc; table]?)
+        indexes,
+    })
+}
+
+// That table alone.
+fn tables(alloc: Global) -> Result<Vec<ClosedTable>, Fail> {
+    Ok(vec![in alloc; table(alloc)?]?)
+}
+
+// The answers of one station.
+fn answers(alloc: Global) -> Result<Vec<Bytes>, Fail> {
+    Ok(vec![in alloc; Bytes::from_slice(alloc, b"OK\n")?]?)
 }
 
 // A folder with the memory for the files.
 fn folder(alloc: Global) -> Result<MemoryFolder, AllocError> {
     MemoryFolder::with_room(alloc, 4, 12, 2048)
+}
+
+// Two of them.
+fn folders(alloc: Global) -> Result<(MemoryFolder, MemoryFolder), AllocError> {
+    let first = folder(alloc)?;
+    Ok((first, folder(alloc)?))
 }
 
 // Whether two folders have the same files.
@@ -86,10 +123,11 @@ struct Sample {
 }
 
 fn make_sample(alloc: Global) -> Result<Sample, Fail> {
-    let (ample, scarce) = (folder(alloc)?, folder(alloc)?);
-    let answers = vec![in alloc; Bytes::from_slice(alloc, b"OK\n")?]?;
+    let answers = answers(alloc)?;
+    let tables = tables(alloc)?;
+    let (ample, scarce) = folders(alloc)?;
     Ok(Sample {
-        tables: tables(alloc)?,
+        tables,
         answers,
         ample,
         scarce,

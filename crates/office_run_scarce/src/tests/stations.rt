@@ -27,23 +27,40 @@ const SCRIPT: &[u8] =
 const ANSWERS: &[u8] =
     b"OK\nOK\nOK\nEVE\nREFUSED 10 NoSuchField\nSTATUS 5 1 110 1 0 0 0 0 0 0 0 0 0 0 0 0 0 0 0 0 0 0 0\n";
 
-// The catalogue of the table T, which has the field NAME, three characters wide, and no records.
-fn open(alloc: Global) -> Result<Catalogue, Fail> {
+// A table of the field NAME, three characters wide, and no records.
+fn empty(alloc: Global) -> Result<TableData, Fail> {
     let name = Field::new(alloc, b"NAME", CHARACTER, 3, 0)?;
-    let table = TableSource {
-        name: Bytes::from_slice(alloc, b"T")?,
-        content: TableData::empty(alloc, Schema::new(alloc, &[name])?),
+    Ok(TableData::empty(alloc, Schema::new(alloc, &[name])?))
+}
+
+// That table under the name T.
+fn source(alloc: Global) -> Result<TableSource, Fail> {
+    let name = Bytes::from_slice(alloc, b"T")?;
+    Ok(TableSource {
+        name,
+        content: empty(alloc)?,
         indexes: Vec::new(alloc),
-    };
-    Ok(Catalogue::open(alloc, vec![in alloc; table]?, 1, false)?)
+    })
+}
+
+// The catalogue of that table.
+fn open(alloc: Global) -> Result<Catalogue, Fail> {
+    let sources = vec![in alloc; source(alloc)?]?;
+    Ok(Catalogue::open(alloc, sources, 1, false)?)
+}
+
+// Puts catalogues for all tries after others.
+fn open_tries(alloc: Global, all: &mut Vec<Catalogue>) -> Result<(), Fail> {
+    for _ in 0..TRIES {
+        all.push(open(alloc)?)?;
+    }
+    Ok(())
 }
 
 // Catalogues for all tries, made beforehand.
 fn open_all(alloc: Global) -> Result<Vec<Catalogue>, Fail> {
     let mut all = Vec::new(alloc);
-    for _ in 0..TRIES {
-        all.push(open(alloc)?)?;
-    }
+    open_tries(alloc, &mut all)?;
     Ok(all)
 }
 
