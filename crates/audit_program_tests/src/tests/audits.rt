@@ -1,12 +1,15 @@
 //! Audits over files in memory, of journals that hold and that don't.
 
-use super::journals::{count_of, journal_of, named, options_for, source_with};
+use super::journals::{add_file, assert_same, count_of, journal_of, options_for, source_with};
 use audit::{AuditFault, Difference};
-use audit_program::{AuditFailure, audit_options, command, options_of};
+use audit_program::{AuditFailure, Options, audit_options, command, options_of};
 use byte_io::Bytes;
 use dbf_fields::day_of;
+use folders::MemorySource;
 use office_run::{FileFault, ServeFault};
 use std::alloc::{AllocError, Global};
+use std::convert::AsStr;
+use std::process::Abort;
 use std::test::Fail;
 
 // Entries of journals of the table, which hold, and how many there are.
@@ -45,6 +48,11 @@ fn audited(
     Ok(count_of(audit_options(alloc, &options, &mut source)))
 }
 
+// Whether a journal with these entries holds, and has so many.
+fn holds(alloc: Global, lines: &[u8], count: u64) -> Result<bool, AllocError> {
+    Ok(audited(alloc, lines, count)? == Ok(count))
+}
+
 // The number of the entry that a failure speaks of, from 1, or 0.
 fn number_in(failure: &AuditFailure) -> u64 {
     match failure {
@@ -54,11 +62,24 @@ fn number_in(failure: &AuditFailure) -> u64 {
     }
 }
 
+// Whether the entry of this number is said not to hold.
+fn is_told_of(ended: &Result<u64, AuditFailure>, number: u64) -> bool {
+    match ended {
+        Ok(_) => false,
+        Err(failure) => number_in(failure) == number,
+    }
+}
+
+// Whether a journal with these entries, so many, is said not to hold at the entry of this number.
+fn fails_at(alloc: Global, lines: &[u8], count: u64, number: u64) -> Result<bool, AllocError> {
+    Ok(is_told_of(&audited(alloc, lines, count)?, number))
+}
+
 // The first journal that does not hold, or has another number of entries.
 fn first_that_fails(alloc: Global) -> Result<Option<usize>, Fail> {
     for i in 0..HOLD.len() {
         let (lines, count) = HOLD[i];
-        if audited(alloc, lines, count)? != Ok(count) {
+        if !holds(alloc, lines, count)? {
             return Ok(Some(i));
         }
     }
@@ -69,13 +90,8 @@ fn first_that_fails(alloc: Global) -> Result<Option<usize>, Fail> {
 fn first_that_holds(alloc: Global) -> Result<Option<usize>, Fail> {
     for i in 0..DONT_HOLD.len() {
         let (lines, count, number) = DONT_HOLD[i];
-        match audited(alloc, lines, count)? {
-            Ok(_) => return Ok(Some(i)),
-            Err(failure) => {
-                if number_in(&failure) != number {
-                    return Ok(Some(i));
-                }
-            }
+        if !fails_at(alloc, lines, count, number)? {
+            return Ok(Some(i));
         }
     }
     Ok(None)
@@ -84,25 +100,39 @@ fn first_that_holds(alloc: Global) -> Result<Option<usize>, Fail> {
 #[test]
 fn journals_hold_or_not(rt: HostRuntime) -> Result<(), Fail> {
     let alloc = rt.alloc();
-    assert_eq!(rt; first_that_fails(alloc)?, None);
-    assert_eq!(rt; first_that_holds(alloc)?, None);
+    assert_eq!(rt;
+        [first_that_fails(alloc)?, first_that_holds(alloc)?],
+        [None, None]
+    );
     Ok(())
 }
 
-#[test]
-fn another_answer_is_told_with_both(rt: HostRuntime) -> Result<(), Fail> {
-    let alloc = rt.alloc();
-    let lines = b"1 5 2 USE T OK\n1 7 3 ? EOF() .F.\n";
-    let difference = Difference {
+// That the second entry's answer is another.
+fn other_answer(alloc: Global) -> Result<AuditFailure, AllocError> {
+    Ok(AuditFailure::Audit(AuditFault::Differs(Difference {
         number: 2,
         station: 1,
         command: Bytes::from_slice(alloc, b"? EOF()")?,
         told: Bytes::from_slice(alloc, b".F.")?,
         performed: Bytes::from_slice(alloc, b".T.")?,
-    };
-    let failure = AuditFailure::Audit(AuditFault::Differs(difference));
-    assert_eq!(rt; audited(alloc, lines, 2)?, Err(failure));
+    })))
+}
+
+// Asserts what is said of a journal whose second answer is another.
+fn assert_told(
+    rt: &impl Abort,
+    alloc: Global,
+    wanted: &Result<u64, AuditFailure>,
+) -> Result<(), Fail> {
+    let lines = b"1 5 2 USE T OK\n1 7 3 ? EOF() .F.\n";
+    assert_same(rt, &audited(alloc, lines, 2)?, wanted);
     Ok(())
+}
+
+#[test]
+fn another_answer_is_told_with_both(rt: HostRuntime) -> Result<(), Fail> {
+    let wanted = Err(other_answer(rt.alloc())?);
+    assert_told(&rt, rt.alloc(), &wanted)
 }
 
 // What an audit over these paths says of an empty journal.
@@ -117,52 +147,115 @@ fn audited_at<'a>(
     Ok(count_of(audit_options(alloc, &options, &mut source)))
 }
 
+// Asserts what an audit over these paths says of an empty journal.
+fn assert_audited_at<'a>(
+    rt: &impl Abort,
+    alloc: Global,
+    (setup, journal): (&'a str, &'a str),
+    wanted: &Result<u64, AuditFailure>,
+) -> Result<(), Fail> {
+    assert_same(rt, &audited_at(alloc, setup, journal)?, wanted);
+    Ok(())
+}
+
+// What is said of this setup for a fault of its file.
+fn setup_fault(alloc: Global, setup: &[u8], fault: FileFault) -> Result<AuditFailure, AllocError> {
+    let path = Bytes::from_slice(alloc, setup)?;
+    Ok(AuditFailure::Serve(ServeFault::File(path, fault)))
+}
+
+// Asserts that a setup that is missing is told.
+fn assert_no_setup(rt: &impl Abort, alloc: Global) -> Result<(), Fail> {
+    let wanted = Err(setup_fault(alloc, b"NONE.SET", FileFault::CannotRead)?);
+    assert_audited_at(rt, alloc, ("NONE.SET", "J.TXT"), &wanted)
+}
+
 #[test]
 fn files_that_are_missing_are_told(rt: HostRuntime) -> Result<(), Fail> {
     let alloc = rt.alloc();
-    assert_eq!(rt;
-        audited_at(alloc, "NONE.SET", "NONE.TXT")?,
-        Err(AuditFailure::Unread)
-    );
-    let path = Bytes::from_slice(alloc, b"NONE.SET")?;
-    let missing = AuditFailure::Serve(ServeFault::File(path, FileFault::CannotRead));
-    assert_eq!(rt; audited_at(alloc, "NONE.SET", "J.TXT")?, Err(missing));
-    Ok(())
+    assert_no_setup(&rt, alloc)?;
+    let unread = Err(AuditFailure::Unread);
+    assert_audited_at(&rt, alloc, ("NONE.SET", "NONE.TXT"), &unread)
 }
 
 // The name of the list of a set of new files.
 const LIST: &str = "~niqarthu.list";
 
+// Adds an empty journal in the folder `kept`.
+fn add_journal(alloc: Global, source: &mut MemorySource) -> Result<(), AllocError> {
+    let text = journal_of(alloc, b"", 0)?;
+    add_file(alloc, &mut source.files, b"kept/J.TXT", text.as_slice())
+}
+
+// Adds a list in this folder.
+fn add_list(alloc: Global, source: &mut MemorySource, folder: &str) -> Result<(), Fail> {
+    let list = format!(in alloc; "{folder}{LIST}")?;
+    add_file(alloc, &mut source.files, list.as_bytes(), b"T.DBF\n")?;
+    Ok(())
+}
+
+// What an audit of the source says then.
+fn audited_kept(
+    alloc: Global,
+    source: &mut MemorySource,
+    folder: &str,
+) -> Result<Result<u64, AuditFailure>, Fail> {
+    add_journal(alloc, source)?;
+    add_list(alloc, source, folder)?;
+    let options = options_for("A.SET", "kept/J.TXT");
+    Ok(count_of(audit_options(alloc, &options, source)))
+}
+
 // What an audit says of an empty journal in the folder `kept`, where a list lies in this folder.
 fn audited_beside(alloc: Global, folder: &str) -> Result<Result<u64, AuditFailure>, Fail> {
-    let text = journal_of(alloc, b"", 0)?;
     let mut source = source_with(alloc, b"")?;
-    let list = format!(in alloc; "{folder}{LIST}")?;
-    source
-        .files
-        .push(named(alloc, b"kept/J.TXT", text.as_slice())?)?;
-    source
-        .files
-        .push(named(alloc, list.as_bytes(), b"T.DBF\n")?)?;
-    let options = options_for("A.SET", "kept/J.TXT");
-    Ok(count_of(audit_options(alloc, &options, &mut source)))
+    audited_kept(alloc, &mut source, folder)
+}
+
+// The folders in which a list lies.
+const FOLDERS: [&str; 3] = ["", "kept/", "elsewhere/"];
+
+// What is said where a list lies in the folder with this number in `FOLDERS`.
+fn end_beside(alloc: Global, number: usize) -> Result<Result<u64, AuditFailure>, AllocError> {
+    match number {
+        0 => Ok(Err(setup_fault(alloc, b"A.SET", FileFault::Unrecovered)?)),
+        1 => {
+            let journal = Bytes::from_slice(alloc, b"kept/J.TXT")?;
+            Ok(Err(AuditFailure::UnrecoveredJournal(journal)))
+        }
+        _ => Ok(Ok(0)),
+    }
+}
+
+// Asserts what is said where a list lies in this folder.
+fn assert_beside(
+    rt: &impl Abort,
+    alloc: Global,
+    folder: &str,
+    wanted: &Result<u64, AuditFailure>,
+) -> Result<(), Fail> {
+    assert_same(rt, &audited_beside(alloc, folder)?, wanted);
+    Ok(())
+}
+
+// Asserts it of the folder with this number in `FOLDERS`.
+fn assert_folder(rt: &impl Abort, alloc: Global, number: usize, folder: &str) -> Result<(), Fail> {
+    let wanted = end_beside(alloc, number)?;
+    assert_beside(rt, alloc, folder, &wanted)
 }
 
 #[test]
 fn folders_that_are_not_recovered_are_not_audited(rt: HostRuntime) -> Result<(), Fail> {
-    let alloc = rt.alloc();
-    let setup = Bytes::from_slice(alloc, b"A.SET")?;
-    let journal = Bytes::from_slice(alloc, b"kept/J.TXT")?;
-    let unrecovered = ServeFault::File(setup, FileFault::Unrecovered);
-    let cases = [
-        ("", Err(AuditFailure::Serve(unrecovered))),
-        ("kept/", Err(AuditFailure::UnrecoveredJournal(journal))),
-        ("elsewhere/", Ok(0)),
-    ];
-    for (folder, ended) in cases {
-        assert_eq!(rt; audited_beside(alloc, folder)?, ended);
+    for number in 0..FOLDERS.len() {
+        assert_folder(&rt, rt.alloc(), number, FOLDERS[number])?;
     }
     Ok(())
+}
+
+// The options that a command line has, where its date is one.
+fn options_in<'a, T: AsStr>(alloc: Global, words: &'a [T]) -> Result<Option<Options<'a>>, Fail> {
+    let matches = command(alloc)?.try_get_matches_from(words)?;
+    Ok(options_of(&matches))
 }
 
 #[test]
@@ -174,12 +267,9 @@ fn the_command_line_is_read(rt: HostRuntime) -> Result<(), Fail> {
         "A.SET",
         "--journal=J.TXT",
     ];
-    let matches = command(rt.alloc())?.try_get_matches_from(words.as_slice())?;
-    let options = options_of(&matches).ok_or("options")?;
-    assert_eq!(rt; options.setup, "A.SET");
-    assert_eq!(rt; options.journal, "J.TXT");
-    assert!(rt; options.reindex);
-    assert!(rt; options.written.is_none());
+    let options = options_in(rt.alloc(), words.as_slice())?.ok_or("options")?;
+    assert_eq!(rt; [options.setup, options.journal], ["A.SET", "J.TXT"]);
+    assert!(rt; options.reindex && options.written.is_none());
     Ok(())
 }
 
@@ -193,8 +283,7 @@ fn out_of<'a>(alloc: Global, today: &'a str) -> Result<Option<bool>, Fail> {
         "--today",
         today,
     ];
-    let matches = command(alloc)?.try_get_matches_from(words.as_slice())?;
-    let Some(options) = options_of(&matches) else {
+    let Some(options) = options_in(alloc, words.as_slice())? else {
         return Ok(None);
     };
     let written = options.written.ok_or("a folder")?;
@@ -204,7 +293,7 @@ fn out_of<'a>(alloc: Global, today: &'a str) -> Result<Option<bool>, Fail> {
 #[test]
 fn the_folder_is_read_with_a_date(rt: HostRuntime) -> Result<(), Fail> {
     let alloc = rt.alloc();
-    assert_eq!(rt; out_of(alloc, "19870315")?, Some(true));
-    assert_eq!(rt; out_of(alloc, "19870230")?, None);
+    let found = [out_of(alloc, "19870315")?, out_of(alloc, "19870230")?];
+    assert_eq!(rt; found, [Some(true), None]);
     Ok(())
 }

@@ -38,13 +38,14 @@ fn unread(alloc: Global) -> Result<AuditFailure, AllocError> {
     Ok(AuditFailure::Serve(fault))
 }
 
-fn differs(alloc: Global) -> Result<AuditFailure, AllocError> {
+// That an entry has the one answer in the journal, and its command the other.
+fn differs(alloc: Global, told: &[u8], performed: &[u8]) -> Result<AuditFailure, AllocError> {
     Ok(AuditFailure::Audit(AuditFault::Differs(Difference {
         number: 4,
         station: 1,
         command: Bytes::from_slice(alloc, b"? NAME")?,
-        told: Bytes::from_slice(alloc, b"BOX")?,
-        performed: Bytes::from_slice(alloc, b"BOB")?,
+        told: Bytes::from_slice(alloc, told)?,
+        performed: Bytes::from_slice(alloc, performed)?,
     })))
 }
 
@@ -90,11 +91,16 @@ fn end_of(alloc: Global, number: usize) -> Result<Ended, Fail> {
     }
 }
 
+// Whether the end with this number in `ENDS` is told so.
+fn is_end_told(alloc: Global, number: usize, row: (u8, &str, &str)) -> Result<bool, Fail> {
+    let ended = end_of(alloc, number)?;
+    Ok(is_told(alloc, &ended, row))
+}
+
 #[test]
 fn each_end_has_its_status_and_line(rt: HostRuntime) -> Result<(), Fail> {
     for number in 0..ENDS.len() {
-        let ended = end_of(rt.alloc(), number)?;
-        assert!(rt; is_told(rt.alloc(), &ended, ENDS[number]));
+        assert!(rt; is_end_told(rt.alloc(), number, ENDS[number])?);
     }
     Ok(())
 }
@@ -140,7 +146,7 @@ fn failure_of(alloc: Global, number: usize) -> Result<Failure<AuditFailure>, All
         }
         7 => Ok(Failure::Work(AuditFailure::from(AuditFault::NoMemory))),
         8 => Ok(Failure::Work(AuditFailure::from(AuditFault::NoEntry(3)))),
-        9 => Ok(Failure::Work(differs(alloc)?)),
+        9 => Ok(Failure::Work(differs(alloc, b"BOX", b"BOB")?)),
         _ => Ok(Failure::Work(AuditFailure::from(AuditFault::TooLong))),
     }
 }
@@ -154,11 +160,16 @@ fn is_failure_told(
     is_told(alloc, &Err(Ending::Failed(failure)), (status, "", line))
 }
 
+// Whether the failure with this number in `FAILURES` is told so.
+fn is_one_told(alloc: Global, number: usize, row: (u8, &str)) -> Result<bool, AllocError> {
+    let failure = failure_of(alloc, number)?;
+    Ok(is_failure_told(alloc, failure, row))
+}
+
 #[test]
 fn each_failure_has_its_status_and_line(rt: HostRuntime) -> Result<(), Fail> {
     for number in 0..FAILURES.len() {
-        let failure = failure_of(rt.alloc(), number)?;
-        assert!(rt; is_failure_told(rt.alloc(), failure, FAILURES[number]));
+        assert!(rt; is_one_told(rt.alloc(), number, FAILURES[number])?);
     }
     Ok(())
 }
@@ -185,50 +196,70 @@ fn other_run_of(alloc: Global, number: usize) -> Result<Failure<AuditFailure>, A
     }
 }
 
+// Whether the failure with this number in `OTHER_RUNS` is told so.
+fn is_other_run_told(alloc: Global, number: usize, row: (u8, &str)) -> Result<bool, AllocError> {
+    let failure = other_run_of(alloc, number)?;
+    Ok(is_failure_told(alloc, failure, row))
+}
+
 #[test]
 fn each_other_run_has_its_status_and_line(rt: HostRuntime) -> Result<(), Fail> {
     for number in 0..OTHER_RUNS.len() {
-        let failure = other_run_of(rt.alloc(), number)?;
-        assert!(rt; is_failure_told(rt.alloc(), failure, OTHER_RUNS[number]));
+        assert!(rt; is_other_run_told(rt.alloc(), number, OTHER_RUNS[number])?);
     }
     Ok(())
 }
 
+// So many of one byte, and this one.
+fn long_answer(alloc: Global, same: usize, last: u8) -> Result<Vec<u8>, AllocError> {
+    let mut answer = vec![in alloc; b'A'; same]?;
+    answer.push(last)?;
+    Ok(answer)
+}
+
 // An entry whose answer is another by the byte after so many that are the same.
 fn differs_at_the_end(alloc: Global, same: usize) -> Result<AuditFailure, AllocError> {
-    let mut performed = vec![in alloc; b'A'; same]?;
-    performed.push(b'A')?;
-    let mut told = vec![in alloc; b'A'; same]?;
-    told.push(b'B')?;
-    Ok(AuditFailure::Audit(AuditFault::Differs(Difference {
-        number: 4,
-        station: 1,
-        command: Bytes::from_slice(alloc, b"? NAME")?,
-        told: Bytes::from_vec(told),
-        performed: Bytes::from_vec(performed),
-    })))
+    let told = long_answer(alloc, same, b'B')?;
+    let performed = long_answer(alloc, same, b'A')?;
+    differs(alloc, told.as_slice(), performed.as_slice())
+}
+
+// Whether such an entry is told with these lines.
+fn is_difference_told(alloc: Global, same: usize, lines: &str) -> Result<bool, AllocError> {
+    let failure = Failure::Work(differs_at_the_end(alloc, same)?);
+    Ok(is_failure_told(alloc, failure, (5, lines)))
+}
+
+// Fifty bytes of a long answer, and one less.
+const FRONT: &str = "AAAAAAAAAAAAAAAAAAAAAAAAAAAAAAAAAAAAAAAAAAAAAAAAAA";
+
+const NEARLY: &str = "AAAAAAAAAAAAAAAAAAAAAAAAAAAAAAAAAAAAAAAAAAAAAAAAA";
+
+// Whether answers of as many bytes as are shown are shown whole.
+fn are_shown_whole(alloc: Global) -> Result<bool, Fail> {
+    let lines = format!(in alloc;
+        "station_audit: entry 4: station 1: ? NAME
+  the journal says: {FRONT}{FRONT}{FRONT}{NEARLY}B
+  the answer is: {FRONT}{FRONT}{FRONT}{FRONT}
+"
+    )?;
+    Ok(is_difference_told(alloc, 199, lines.as_str())?)
+}
+
+// Whether answers of one byte more are cut.
+fn are_cut(alloc: Global) -> Result<bool, Fail> {
+    let lines = format!(in alloc;
+        "station_audit: entry 4: station 1: ? NAME
+  the journal says: {FRONT}{FRONT}{FRONT}{FRONT}.. (201 bytes)
+  the answer is: {FRONT}{FRONT}{FRONT}{FRONT}.. (201 bytes)
+"
+    )?;
+    Ok(is_difference_told(alloc, 200, lines.as_str())?)
 }
 
 #[test]
 fn long_answers_are_shown_by_their_first_bytes(rt: HostRuntime) -> Result<(), Fail> {
-    let alloc = rt.alloc();
-    let front = "AAAAAAAAAAAAAAAAAAAAAAAAAAAAAAAAAAAAAAAAAAAAAAAAAA";
-    let nearly = "AAAAAAAAAAAAAAAAAAAAAAAAAAAAAAAAAAAAAAAAAAAAAAAAA";
-    let last_shown = format!(in alloc;
-        "station_audit: entry 4: station 1: ? NAME
-  the journal says: {front}{front}{front}{nearly}B
-  the answer is: {front}{front}{front}{front}
-"
-    )?;
-    let cut = format!(in alloc;
-        "station_audit: entry 4: station 1: ? NAME
-  the journal says: {front}{front}{front}{front}.. (201 bytes)
-  the answer is: {front}{front}{front}{front}.. (201 bytes)
-"
-    )?;
-    let nearly_same = Failure::Work(differs_at_the_end(alloc, 199)?);
-    assert!(rt; is_failure_told(alloc, nearly_same, (5, last_shown.as_str())));
-    let longer = Failure::Work(differs_at_the_end(alloc, 200)?);
-    assert!(rt; is_failure_told(alloc, longer, (5, cut.as_str())));
+    assert!(rt; are_shown_whole(rt.alloc())?);
+    assert!(rt; are_cut(rt.alloc())?);
     Ok(())
 }

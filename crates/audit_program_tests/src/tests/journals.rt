@@ -5,6 +5,8 @@ use byte_io::{Bytes, Failures};
 use folders::{MemorySource, NamedFile};
 use journal_file::{FileSum, head_text, sum_of, tail_text};
 use std::alloc::{AllocError, Global};
+use std::fmt::Debug;
+use std::process::Abort;
 
 // The DBF file of a table with one field of characters, A, one byte wide, without records, dated 1985-01-02.
 #[rattlefmt::skip]
@@ -25,19 +27,37 @@ const FILES: [(&[u8], &[u8]); 4] = [
     (b"b.prg", b""),
 ];
 
-pub(super) fn named(alloc: Global, name: &[u8], bytes: &[u8]) -> Result<NamedFile, AllocError> {
+fn named(alloc: Global, name: &[u8], bytes: &[u8]) -> Result<NamedFile, AllocError> {
     Ok(NamedFile {
         name: Bytes::from_slice(alloc, name)?,
         bytes: Bytes::from_slice(alloc, bytes)?,
     })
 }
 
+/// Adds a file to those of a source.
+pub(super) fn add_file(
+    alloc: Global,
+    files: &mut Vec<NamedFile>,
+    name: &[u8],
+    bytes: &[u8],
+) -> Result<(), AllocError> {
+    files.push(named(alloc, name, bytes)?)?;
+    Ok(())
+}
+
+// Adds a journal and the files of a run.
+fn add_files(alloc: Global, files: &mut Vec<NamedFile>, journal: &[u8]) -> Result<(), AllocError> {
+    add_file(alloc, files, b"J.TXT", journal)?;
+    for (name, bytes) in FILES {
+        add_file(alloc, files, name, bytes)?;
+    }
+    Ok(())
+}
+
 /// The files of a run, and a journal.
 pub(super) fn source_with(alloc: Global, journal: &[u8]) -> Result<MemorySource, AllocError> {
-    let mut files = vec![in alloc; named(alloc, b"J.TXT", journal)?]?;
-    for (name, bytes) in FILES {
-        files.push(named(alloc, name, bytes)?)?;
-    }
+    let mut files = Vec::new(alloc);
+    add_files(alloc, &mut files, journal)?;
     Ok(MemorySource {
         files,
         loads: u64::MAX,
@@ -45,13 +65,39 @@ pub(super) fn source_with(alloc: Global, journal: &[u8]) -> Result<MemorySource,
     })
 }
 
+/// Adds what a journal says of a file.
+pub(super) fn add_sum(
+    alloc: Global,
+    sums: &mut Vec<FileSum>,
+    name: &[u8],
+    bytes: &[u8],
+) -> Result<(), AllocError> {
+    sums.push(sum_of(alloc, name, bytes)?)?;
+    Ok(())
+}
+
+// Adds what a journal says of the files that a run over them read.
+fn add_read(alloc: Global, sums: &mut Vec<FileSum>) -> Result<(), AllocError> {
+    for (name, bytes) in FILES {
+        add_sum(alloc, sums, name, bytes)?;
+    }
+    Ok(())
+}
+
 /// What a journal says of the files that a run over them read.
 pub(super) fn read_sums(alloc: Global) -> Result<Vec<FileSum>, AllocError> {
     let mut sums = Vec::new(alloc);
-    for (name, bytes) in FILES {
-        sums.push(sum_of(alloc, name, bytes)?)?;
-    }
+    add_read(alloc, &mut sums)?;
     Ok(sums)
+}
+
+// The parts one after another.
+fn joined(alloc: Global, parts: [&[u8]; 3]) -> Result<Bytes, AllocError> {
+    let mut text = Vec::new(alloc);
+    for part in parts {
+        text.extend_from_slice(part)?;
+    }
+    Ok(Bytes::from_vec(text))
 }
 
 /// The text of a journal: the files that the run read, the lines of its entries, so many, and the files that it wrote.
@@ -64,11 +110,7 @@ pub(super) fn text_of(
     let (lines, count) = entries;
     let head = head_text(alloc, read, false, count)?;
     let tail = tail_text(alloc, wrote)?;
-    let mut text = Vec::new(alloc);
-    text.extend_from_slice(head.as_slice())?;
-    text.extend_from_slice(lines)?;
-    text.extend_from_slice(tail.as_slice())?;
-    Ok(Bytes::from_vec(text))
+    joined(alloc, [head.as_slice(), lines, tail.as_slice()])
 }
 
 /// The text of the journal of a run over the files that wrote none.
@@ -94,4 +136,9 @@ pub(super) fn count_of<F>(ended: Result<Audited, F>) -> Result<u64, F> {
         Ok(audited) => Ok(audited.count),
         Err(failure) => Err(failure),
     }
+}
+
+/// Asserts that what was found is what was wanted.
+pub(super) fn assert_same<T: PartialEq + Debug>(rt: &impl Abort, found: &T, wanted: &T) {
+    assert_eq!(rt; *found, *wanted);
 }
