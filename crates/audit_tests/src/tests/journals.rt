@@ -1,6 +1,6 @@
 //! Journals, written by hand, that hold and that don't.
 
-use super::sample::{audited, joined};
+use super::sample::{assert_audited, assert_lines, audited, joined};
 use audit::{AuditFault, Difference};
 use byte_io::Bytes;
 use std::alloc::Global;
@@ -47,11 +47,21 @@ const LINES_WITH_LF: [&[u8]; 5] = [
     b"1 4 21 BAD\n REFUSED 19 BadCommand\n",
 ];
 
+// Whether no entry of this number is said to stand in a text.
+fn has_no_entry(alloc: Global, text: &[u8], number: u64) -> Result<bool, Fail> {
+    Ok(audited(alloc, 2, text)? == Err(AuditFault::NoEntry(number)))
+}
+
+// Whether a line after the first one of the journal is said to be no entry's.
+fn is_no_second(alloc: Global, line: &[u8]) -> Result<bool, Fail> {
+    let text = joined(alloc, &[LINES[0], line])?;
+    has_no_entry(alloc, text.as_slice(), 2)
+}
+
 // The index of the first of these that is not said to be no entry's line.
 fn first_with_lf_taken(alloc: Global) -> Result<Option<usize>, Fail> {
     for i in 0..LINES_WITH_LF.len() {
-        let text = joined(alloc, &[LINES[0], LINES_WITH_LF[i]])?;
-        if audited(alloc, 2, text.as_slice())? != Err(AuditFault::NoEntry(2)) {
+        if !is_no_second(alloc, LINES_WITH_LF[i])? {
             return Ok(Some(i));
         }
     }
@@ -79,11 +89,17 @@ fn other_answer(
 // The index of the first line that is said to begin a journal, or to be no entry's of another number than 1.
 fn first_begun(alloc: Global) -> Result<Option<usize>, Fail> {
     for i in 0..NO_FIRST_LINES.len() {
-        if audited(alloc, 2, NO_FIRST_LINES[i])? != Err(AuditFault::NoEntry(1)) {
+        if !has_no_entry(alloc, NO_FIRST_LINES[i], 1)? {
             return Ok(Some(i));
         }
     }
     Ok(None)
+}
+
+// Whether a journal of so many lines holds.
+fn hold(alloc: Global, lines: &[&[u8]], count: u64) -> Result<bool, Fail> {
+    let text = joined(alloc, lines)?;
+    Ok(audited(alloc, 2, text.as_slice())? == Ok(count))
 }
 
 // How many of the first lines of the journal don't hold.
@@ -91,8 +107,7 @@ fn first_parts_that_fail(alloc: Global) -> Result<usize, Fail> {
     let mut failed = 0;
     for count in 0..LINES.len() {
         let (lines, _) = LINES.as_slice().split_at(count);
-        let text = joined(alloc, lines)?;
-        if audited(alloc, 2, text.as_slice())? != Ok(count as u64) && failed < 100 {
+        if !hold(alloc, lines, count as u64)? && failed < 100 {
             failed += 1;
         }
     }
@@ -101,11 +116,8 @@ fn first_parts_that_fail(alloc: Global) -> Result<usize, Fail> {
 
 #[test]
 fn a_journal_holds(rt: HostRuntime) -> Result<(), Fail> {
-    let alloc = rt.alloc();
-    let text = joined(alloc, &LINES)?;
-    assert_eq!(rt; audited(alloc, 2, text.as_slice())?, Ok(15));
-    assert_eq!(rt; first_parts_that_fail(alloc)?, 0);
-    Ok(())
+    assert_eq!(rt; first_parts_that_fail(rt.alloc())?, 0);
+    assert_lines(&rt, rt.alloc(), 2, &LINES, &Ok(15))
 }
 
 #[test]
@@ -125,38 +137,42 @@ fn a_cut_journal_has_no_last_entry(rt: HostRuntime) -> Result<(), Fail> {
     let alloc = rt.alloc();
     let text = joined(alloc, &LINES)?;
     let (cut, _) = text.as_slice().split_at(text.len().saturating_sub(1));
-    assert_eq!(rt; audited(alloc, 2, cut)?, Err(AuditFault::NoEntry(15)));
-    Ok(())
+    assert_audited(&rt, alloc, 2, cut, &Err(AuditFault::NoEntry(15)))
+}
+
+// The journal with another answer of its fourth entry.
+fn changed() -> [&'static [u8]; 15] {
+    let mut lines = LINES;
+    lines[3] = b"1 6 3 ? NAME BOX\n";
+    lines
 }
 
 #[test]
 fn a_changed_answer_is_found(rt: HostRuntime) -> Result<(), Fail> {
     let alloc = rt.alloc();
-    let mut lines = LINES;
-    lines[3] = b"1 6 3 ? NAME BOX\n";
-    let text = joined(alloc, &lines)?;
     let fault = other_answer(alloc, 4, 1, b"? NAME", b"BOX", b"BOB")?;
-    assert_eq!(rt; audited(alloc, 2, text.as_slice())?, Err(fault));
-    Ok(())
+    assert_lines(&rt, alloc, 2, &changed(), &Err(fault))
 }
 
-// The two entries at the middle change places: the first that can't be is the one that comes too early.
-#[test]
-fn exchanged_entries_are_found(rt: HostRuntime) -> Result<(), Fail> {
-    let alloc = rt.alloc();
+// The journal with the two entries at the middle in each other's place.
+fn exchanged() -> [&'static [u8]; 15] {
     let mut lines = LINES;
     lines[11] = LINES[12];
     lines[12] = LINES[11];
-    let text = joined(alloc, &lines)?;
+    lines
+}
+
+// The first that can't be is the one that comes too early.
+#[test]
+fn exchanged_entries_are_found(rt: HostRuntime) -> Result<(), Fail> {
+    let alloc = rt.alloc();
     let fault = other_answer(alloc, 12, 2, b"USE T", b"OK", b"REFUSED 3 TableInUse")?;
-    assert_eq!(rt; audited(alloc, 2, text.as_slice())?, Err(fault));
-    Ok(())
+    assert_lines(&rt, alloc, 2, &exchanged(), &Err(fault))
 }
 
 #[test]
 fn another_table_has_another_journal(rt: HostRuntime) -> Result<(), Fail> {
     let alloc = rt.alloc();
-    let text = joined(alloc, &LINES)?;
     let fault = other_answer(
         alloc,
         3,
@@ -165,6 +181,5 @@ fn another_table_has_another_journal(rt: HostRuntime) -> Result<(), Fail> {
         b"OK",
         b"REFUSED 7 EndOfFile",
     )?;
-    assert_eq!(rt; audited(alloc, 0, text.as_slice())?, Err(fault));
-    Ok(())
+    assert_lines(&rt, alloc, 0, &LINES, &Err(fault))
 }

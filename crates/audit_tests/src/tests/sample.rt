@@ -8,6 +8,7 @@ use catalogue_core::{Catalogue, TableSource};
 use dbf_fields::{CHARACTER, Field, MEMO, Schema};
 use dbf_image::{TableData, is_memo_text};
 use std::alloc::Global;
+use std::process::Abort;
 use std::test::Fail;
 
 // Gives the first record a note.
@@ -22,23 +23,41 @@ fn set_note(content: &mut TableData, note: &[u8]) -> Result<(), Fail> {
     Ok(())
 }
 
-// A table T of blank records with the fields NAME and NOTE. The first has this note, where it is of some bytes.
-fn table(alloc: Global, records: u32, note: &[u8]) -> Result<TableSource, Fail> {
+// The fields NAME and NOTE.
+fn name_and_note(alloc: Global) -> Result<Schema, Fail> {
     let fields = [
         Field::new(alloc, b"NAME", CHARACTER, 3, 0)?,
         Field::new(alloc, b"NOTE", MEMO, 10, 0)?,
     ];
-    let mut content = TableData::empty(alloc, Schema::new(alloc, &fields)?);
+    Ok(Schema::new(alloc, &fields)?)
+}
+
+// Adds blank records. The first gets this note, where it is of some bytes.
+fn fill(content: &mut TableData, records: u32, note: &[u8]) -> Result<(), Fail> {
     for _ in 0..records {
         if content.record_count() < 51 {
             content.append_blank()?;
         }
     }
     if !note.is_empty() {
-        set_note(&mut content, note)?;
+        set_note(content, note)?;
     }
+    Ok(())
+}
+
+// Such records with the fields NAME and NOTE.
+fn filled(alloc: Global, records: u32, note: &[u8]) -> Result<TableData, Fail> {
+    let mut content = TableData::empty(alloc, name_and_note(alloc)?);
+    fill(&mut content, records, note)?;
+    Ok(content)
+}
+
+// A table T of blank records with the fields NAME and NOTE. The first has this note, where it is of some bytes.
+fn table(alloc: Global, records: u32, note: &[u8]) -> Result<TableSource, Fail> {
+    let name = Bytes::from_slice(alloc, b"T")?;
+    let content = filled(alloc, records, note)?;
     Ok(TableSource {
-        name: Bytes::from_slice(alloc, b"T")?,
+        name,
         content,
         indexes: Vec::new(alloc),
     })
@@ -70,6 +89,39 @@ pub(crate) fn audited_with_note(
 ) -> Result<Result<u64, AuditFault>, Fail> {
     let mut catalogue = open(alloc, 1, note)?;
     Ok(audit(alloc, &mut catalogue, text))
+}
+
+/// Asserts that an audit says this.
+pub(crate) fn assert_said(
+    rt: &impl Abort,
+    said: &Result<u64, AuditFault>,
+    wanted: &Result<u64, AuditFault>,
+) {
+    assert_eq!(rt; *said, *wanted);
+}
+
+/// Asserts what an audit says of the journal of a table with so many records.
+pub(crate) fn assert_audited(
+    rt: &impl Abort,
+    alloc: Global,
+    records: u32,
+    text: &[u8],
+    wanted: &Result<u64, AuditFault>,
+) -> Result<(), Fail> {
+    assert_said(rt, &audited(alloc, records, text)?, wanted);
+    Ok(())
+}
+
+/// Asserts the same of these lines one after another.
+pub(crate) fn assert_lines(
+    rt: &impl Abort,
+    alloc: Global,
+    records: u32,
+    lines: &[&[u8]],
+    wanted: &Result<u64, AuditFault>,
+) -> Result<(), Fail> {
+    let text = joined(alloc, lines)?;
+    assert_audited(rt, alloc, records, text.as_slice(), wanted)
 }
 
 /// The lines one after another.
