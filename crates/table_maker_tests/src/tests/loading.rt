@@ -1,13 +1,14 @@
 //! Tests of records that are loaded after those of a table.
 
-use super::{add_field, is_file};
-use byte_io::{Bytes, Failures};
+use super::in_place::length_of;
+use super::{add_field, add_file, is_file};
+use byte_io::Failures;
 use dbf_fields::{Day, day_of};
-use files_in_place::Disk;
 use folders::{MemoryFolder, MemorySource, NamedFile};
 use memory_disk::MemoryDisk;
 use program_frame::{Failure, Reason, Work};
 use std::alloc::{AllocError, Global};
+use std::process::Abort;
 use std::test::Fail;
 use table_maker::{LoadJob, LoadJobFault, make_in_place};
 
@@ -20,61 +21,75 @@ const NEW_RECORDS: &[u8] = b" ADA    12.50         1*B, C   -3.00         2 DOE 
 const TEXT: &[u8] =
     b"\xef\xbb\xbfNAME,NOTE,DUES,deleted\r\n\"B, C\",\"One\r\ntwo\",-3,true\r\nDOE,,,\r\n";
 
+// Adds the rest of a header with the three fields.
+fn add_three_fields(bytes: &mut Vec<u8>) -> Result<(), AllocError> {
+    bytes.extend_from_slice(&[0; 21])?;
+    add_field(bytes, b"NAME", b'C', 6, 0)?;
+    add_field(bytes, b"DUES", b'N', 6, 2)?;
+    add_field(bytes, b"NOTE", b'M', 10, 0)?;
+    bytes.extend_from_slice(&[0x0d])
+}
+
+// Adds such records and the end of the file.
+fn add_records(bytes: &mut Vec<u8>, records: &[u8]) -> Result<(), AllocError> {
+    bytes.extend_from_slice(records)?;
+    bytes.extend_from_slice(&[0x1a])
+}
+
 // The file of such records, with the date 1987-03-02.
 fn table_file(alloc: Global, count: u8, records: &[u8]) -> Result<Vec<u8>, AllocError> {
     let mut bytes = Vec::from_slice(alloc, &[0x83, 87, 3, 2, count, 0, 0, 0, 129, 0, 23])?;
-    bytes.extend_from_slice(&[0; 21])?;
-    add_field(&mut bytes, b"NAME", b'C', 6, 0)?;
-    add_field(&mut bytes, b"DUES", b'N', 6, 2)?;
-    add_field(&mut bytes, b"NOTE", b'M', 10, 0)?;
-    bytes.push(0x0d)?;
-    bytes.extend_from_slice(records)?;
-    bytes.push(0x1a)?;
+    add_three_fields(&mut bytes)?;
+    add_records(&mut bytes, records)?;
     Ok(bytes)
 }
 
-// The file of memos that take a block each.
-fn memo_file(alloc: Global, next: u8, texts: &[&[u8]]) -> Result<Vec<u8>, AllocError> {
-    let mut bytes = Vec::from_slice(alloc, &[next])?;
+// Adds a memo that takes a block.
+fn add_memo(bytes: &mut Vec<u8>, text: &[u8]) -> Result<(), AllocError> {
+    let end = bytes.len().saturating_add(512);
+    bytes.extend_from_slice(text)?;
+    bytes.extend_from_slice(&[0x1a, 0x1a])?;
+    bytes.resize(end, 0)?;
+    Ok(())
+}
+
+// Adds the rest of the first block, and memos that take a block each.
+fn add_memos(bytes: &mut Vec<u8>, texts: &[&[u8]]) -> Result<(), AllocError> {
     bytes.resize(512, 0)?;
     if let Some(version) = bytes.get_mut(16) {
         *version = 3;
     }
     for text in texts {
-        let end = bytes.len().saturating_add(512);
-        bytes.extend_from_slice(text)?;
-        bytes.extend_from_slice(&[0x1a, 0x1a])?;
-        bytes.resize(end, 0)?;
+        add_memo(bytes, text)?;
     }
-    Ok(bytes)
-}
-
-fn add_file(
-    files: &mut Vec<NamedFile>,
-    alloc: Global,
-    name: &[u8],
-    bytes: &[u8],
-) -> Result<(), Fail> {
-    files.push(NamedFile {
-        name: Bytes::from_slice(alloc, name)?,
-        bytes: Bytes::from_slice(alloc, bytes)?,
-    })?;
     Ok(())
 }
 
-// A source of a text of CSV, of the old table and of the file of its memos, under these names.
-fn source_of(alloc: Global, names: [&[u8]; 3], text: &[u8]) -> Result<MemorySource, Fail> {
-    let mut files = Vec::new(alloc);
+// The file of memos that take a block each.
+fn memo_file(alloc: Global, next: u8, texts: &[&[u8]]) -> Result<Vec<u8>, AllocError> {
+    let mut bytes = Vec::from_slice(alloc, &[next])?;
+    add_memos(&mut bytes, texts)?;
+    Ok(bytes)
+}
+
+// Adds a text of CSV, the old table and the file of its memos, under these names, and a file that is no table.
+fn add_files(
+    alloc: Global,
+    files: &mut Vec<NamedFile>,
+    names: [&[u8]; 3],
+    text: &[u8],
+) -> Result<(), AllocError> {
     let [csv, table, memos] = names;
-    add_file(&mut files, alloc, csv, text)?;
-    add_file(
-        &mut files,
-        alloc,
-        table,
-        &table_file(alloc, 1, OLD_RECORDS)?,
-    )?;
-    add_file(&mut files, alloc, memos, &memo_file(alloc, 2, &[b"First"])?)?;
-    add_file(&mut files, alloc, b"BAD.DBF", b"bad")?;
+    add_file(alloc, files, csv, text)?;
+    add_file(alloc, files, table, &table_file(alloc, 1, OLD_RECORDS)?)?;
+    add_file(alloc, files, memos, &memo_file(alloc, 2, &[b"First"])?)?;
+    add_file(alloc, files, b"BAD.DBF", b"bad")
+}
+
+// A source of these files.
+fn source_of(alloc: Global, names: [&[u8]; 3], text: &[u8]) -> Result<MemorySource, AllocError> {
+    let mut files = Vec::new(alloc);
+    add_files(alloc, &mut files, names, text)?;
     Ok(MemorySource {
         files,
         loads: u64::MAX,
@@ -97,24 +112,78 @@ fn job_of<'a>(table: &'a str, memos: Option<&'a str>, cut: bool, today: Day) -> 
     }
 }
 
-#[test]
-fn records_come_after_those_of_the_table(rt: HostRuntime) -> Result<(), Fail> {
-    let alloc = rt.alloc();
+// Whether the two records are loaded after that of the table, into a folder.
+fn is_loaded(alloc: Global, folder: &mut MemoryFolder) -> Result<bool, Fail> {
     let today = day_of(1987, 3, 2).ok_or("a date")?;
     let mut source = source_of(alloc, NAMES, TEXT)?;
-    let mut folder = MemoryFolder::new(alloc);
     let mut said = Vec::new(alloc);
     let job = job_of("OLD.DBF", None, false, today);
-    let made = job.work(alloc, &mut source, &mut folder, &mut said);
+    Ok(job.work(alloc, &mut source, folder, &mut said).is_ok())
+}
+
+// Whether the first file of the folder is the table with the two.
+fn has_new_table(alloc: Global, folder: &MemoryFolder) -> Result<bool, AllocError> {
     let table = table_file(alloc, 3, NEW_RECORDS)?;
+    Ok(is_file(folder, 0, b"NEW.DBF", &table))
+}
+
+// Whether the second file of the folder is that of its memos.
+fn has_new_memos(alloc: Global, folder: &MemoryFolder) -> Result<bool, AllocError> {
     let memos = memo_file(alloc, 3, &[b"First", b"One\r\ntwo"])?;
-    assert!(rt; made.is_ok());
-    assert!(rt; is_file(&folder, 0, b"NEW.DBF", &table));
-    assert!(rt; is_file(&folder, 1, b"NEW.DBT", &memos));
+    Ok(is_file(folder, 1, b"NEW.DBT", &memos))
+}
+
+// Asserts that the records are loaded into the folder, with both files.
+fn assert_loaded(rt: &impl Abort, alloc: Global, folder: &mut MemoryFolder) -> Result<(), Fail> {
+    assert!(rt; is_loaded(alloc, folder)?);
+    assert!(rt; has_new_table(alloc, folder)?);
+    assert!(rt; has_new_memos(alloc, folder)?);
     Ok(())
 }
 
-// What is told of the work of loading a text, with its exit status, where the folder does so many calls; nothing where it is done.
+#[test]
+fn records_come_after_those_of_the_table(rt: HostRuntime) -> Result<(), Fail> {
+    let mut folder = MemoryFolder::new(rt.alloc());
+    assert_loaded(&rt, rt.alloc(), &mut folder)
+}
+
+// What is told of a fault, with its exit status.
+fn words_of(alloc: Global, fault: &LoadJobFault<'_>) -> (Vec<u8>, u8) {
+    let mut words = Vec::new(alloc);
+    let _ = fault.print(&mut words);
+    (words, fault.exit_status())
+}
+
+// What is told of some work, with its exit status: nothing where it is done.
+fn words_after(
+    alloc: Global,
+    job: &LoadJob<'_>,
+    source: &mut MemorySource,
+    folder: &mut MemoryFolder,
+) -> (Vec<u8>, u8) {
+    let mut said = Vec::new(alloc);
+    match job.work(alloc, source, folder, &mut said) {
+        Ok(_) => (Vec::new(alloc), 0),
+        Err(fault) => words_of(alloc, &fault),
+    }
+}
+
+// What is told of the work of loading the text of a source, with its exit status, where the folder does so many calls.
+fn told_over(
+    alloc: Global,
+    source: &mut MemorySource,
+    table: &str,
+    memos: Option<&str>,
+    calls: u64,
+) -> Result<(Vec<u8>, u8), Fail> {
+    let today = day_of(1987, 3, 2).ok_or("a date")?;
+    let mut folder = MemoryFolder::new(alloc);
+    folder.calls = calls;
+    let job = job_of(table, memos, false, today);
+    Ok(words_after(alloc, &job, source, &mut folder))
+}
+
+// The same of a text beside the old table.
 fn told(
     alloc: Global,
     table: &str,
@@ -122,20 +191,8 @@ fn told(
     text: &[u8],
     calls: u64,
 ) -> Result<(Vec<u8>, u8), Fail> {
-    let today = day_of(1987, 3, 2).ok_or("a date")?;
     let mut source = source_of(alloc, NAMES, text)?;
-    let mut folder = MemoryFolder::new(alloc);
-    folder.calls = calls;
-    let mut said = Vec::new(alloc);
-    let job = job_of(table, memos, false, today);
-    let mut words = Vec::new(alloc);
-    match job.work(alloc, &mut source, &mut folder, &mut said) {
-        Ok(_) => Ok((words, 0)),
-        Err(fault) => {
-            let _ = fault.print(&mut words);
-            Ok((words, fault.exit_status()))
-        }
-    }
+    told_over(alloc, &mut source, table, memos, calls)
 }
 
 // A table, the file of its memos, a text of CSV, how many calls the folder does, and what is told.
@@ -188,12 +245,19 @@ const TOLD: [(&str, Option<&str>, &[u8], u64, &str, u8); 11] = [
     ("OLD.DBF", None, TEXT, 3, "cannot write the table", 4),
 ];
 
+// Whether that is told.
+fn is_told(
+    alloc: Global,
+    (table, memos, text, calls, words, status): (&str, Option<&str>, &[u8], u64, &str, u8),
+) -> Result<bool, Fail> {
+    let (said, code) = told(alloc, table, memos, text, calls)?;
+    Ok(said.as_slice() == words.as_bytes() && code == status)
+}
+
 // The first of these of which something else is told.
 fn first_wrong(alloc: Global) -> Result<Option<usize>, Fail> {
     for i in 0..TOLD.len() {
-        let (table, memos, text, calls, words, status) = TOLD[i];
-        let (said, code) = told(alloc, table, memos, text, calls)?;
-        if said.as_slice() != words.as_bytes() || code != status {
+        if !is_told(alloc, TOLD[i])? {
             return Ok(Some(i));
         }
     }
@@ -206,60 +270,64 @@ fn refusals_are_told_with_the_file_the_line_and_the_field(rt: HostRuntime) -> Re
     Ok(())
 }
 
-// What is told where files do not have these names.
-fn told_of_missing(alloc: Global, names: [&[u8]; 3]) -> Result<Option<Vec<u8>>, Fail> {
-    let today = day_of(1987, 3, 2).ok_or("a date")?;
+// What is told where the files have these names.
+fn told_of_names(alloc: Global, names: [&[u8]; 3]) -> Result<(Vec<u8>, u8), Fail> {
     let mut source = source_of(alloc, names, TEXT)?;
-    let mut folder = MemoryFolder::new(alloc);
-    let mut said = Vec::new(alloc);
-    let job = job_of("OLD.DBF", None, false, today);
-    let ended = job.work(alloc, &mut source, &mut folder, &mut said);
-    match ended {
-        Ok(_) => Ok(None),
-        Err(fault) => {
-            let mut words = Vec::new(alloc);
-            let _ = fault.print(&mut words);
-            Ok(Some(words))
-        }
-    }
+    told_over(alloc, &mut source, "OLD.DBF", None, u64::MAX)
+}
+
+// Asserts that of a file that is missing this is told, where the files have these names.
+fn assert_missing(
+    rt: &impl Abort,
+    alloc: Global,
+    names: [&[u8]; 3],
+    words: &[u8],
+) -> Result<(), Fail> {
+    let (told, _) = told_of_names(alloc, names)?;
+    assert_eq!(rt; told.as_slice(), words);
+    Ok(())
 }
 
 #[test]
 fn missing_files_are_told(rt: HostRuntime) -> Result<(), Fail> {
     let alloc = rt.alloc();
-    let csv = told_of_missing(alloc, [b"OTHER.CSV", b"OLD.DBF", b"OLD.DBT"])?.ok_or("a fault")?;
-    let memos = told_of_missing(alloc, [b"DATA.CSV", b"OLD.DBF", b"OTHER.DBT"])?.ok_or("a fault")?;
-    assert_eq!(rt; csv.as_slice(), b"DATA.CSV: cannot read".as_slice());
-    assert_eq!(rt;
-        memos.as_slice(),
-        b"OLD.DBF: MemoFileMissing: the file of memos is missing".as_slice()
-    );
-    Ok(())
+    let csv: [&[u8]; 3] = [b"OTHER.CSV", b"OLD.DBF", b"OLD.DBT"];
+    assert_missing(&rt, alloc, csv, b"DATA.CSV: cannot read")?;
+    let memos: [&[u8]; 3] = [b"DATA.CSV", b"OLD.DBF", b"OTHER.DBT"];
+    let words = b"OLD.DBF: MemoFileMissing: the file of memos is missing";
+    assert_missing(&rt, alloc, memos, words)
 }
 
-// How many bytes NEW.DBF has, where it is there, after a text with too wide a name was loaded into a folder with a file of a name:
-// none, or what is told.
+// How many bytes NEW.DBF has, where it is there, after the text of a source was loaded into a folder with a file of a name, and
+// whether it is told that a file is there.
+fn length_on(
+    alloc: Global,
+    source: &mut MemorySource,
+    there: &[u8],
+    replace: bool,
+    cut: bool,
+) -> Result<(Option<usize>, bool), Fail> {
+    let today = day_of(1987, 3, 2).ok_or("a date")?;
+    let disk = MemoryDisk::new(alloc).with_file(there, b"old")?;
+    let mut said = Vec::new(alloc);
+    let job = job_of("OLD.DBF", None, cut, today);
+    let made = make_in_place(alloc, &job, replace, source, disk, &mut said);
+    let mut disk = made.disk;
+    Ok((
+        length_of(alloc, &mut disk, b"NEW.DBF"),
+        matches!(made.ended, Err(Failure::Work(LoadJobFault::Exists))),
+    ))
+}
+
+// The same of a text with too wide a name.
 fn length_after(
     alloc: Global,
     there: &[u8],
     replace: bool,
     cut: bool,
 ) -> Result<(Option<usize>, bool), Fail> {
-    let today = day_of(1987, 3, 2).ok_or("a date")?;
     let mut source = source_of(alloc, NAMES, b"NAME\nMATILDA\n")?;
-    let disk = MemoryDisk::new(alloc).with_file(there, b"old")?;
-    let mut said = Vec::new(alloc);
-    let job = job_of("OLD.DBF", None, cut, today);
-    let made = make_in_place(alloc, &job, replace, &mut source, disk, &mut said);
-    let mut disk = made.disk;
-    let length = match disk.read(alloc, b"NEW.DBF") {
-        Ok(Some(bytes)) => Some(bytes.as_slice().len()),
-        _ => None,
-    };
-    Ok((
-        length,
-        matches!(made.ended, Err(Failure::Work(LoadJobFault::Exists))),
-    ))
+    length_on(alloc, &mut source, there, replace, cut)
 }
 
 // The name of a file that is there, whether it may be replaced, whether texts are cut, how many bytes NEW.DBF has then, and whether it is
