@@ -1,7 +1,9 @@
 mod beside_day;
 mod ends;
 mod kept;
+mod runs;
 
+use crate::tests::ends::{is_told, said_of};
 use byte_io::Bytes;
 use catalogue_core::{OpenFault, Stop};
 use dbf_fields::day_of;
@@ -9,12 +11,27 @@ use dbf_image::ImageFault;
 use key_expr::ExprFault;
 use ndx_index::NdxFault;
 use office_run::{CloseFault, FileFault, RunFault, ServeFault};
-use program_frame::{Ending, Failure, Reason, date_of, tell};
-use server_program::{PROGRAM, Served, command, options_of};
+use program_frame::{Failure, Reason, date_of};
+use server_program::{Options, command, options_of};
 use shared_catalogue::SettleFault;
 use std::alloc::{AllocError, Global};
-use std::process::ExitCode;
 use std::test::Fail;
+
+// Texts that are no dates.
+const NO_DATES: [&[u8]; 12] = [
+    b"19870230",
+    b"19000229",
+    b"18991231",
+    b"21560101",
+    b"19871301",
+    b"19870100",
+    b"1987031",
+    b"198703150",
+    b"1987031x",
+    b"1987-3-1",
+    b"        ",
+    b"",
+];
 
 // The first text that is a date.
 fn first_date(texts: &[&[u8]]) -> Option<usize> {
@@ -28,25 +45,34 @@ fn first_date(texts: &[&[u8]]) -> Option<usize> {
 
 #[test]
 fn dates(rt: HostRuntime) {
-    assert_eq!(rt; date_of(b"19870315"), day_of(1987, 3, 15));
-    assert_eq!(rt; date_of(b"19000101"), day_of(1900, 1, 1));
-    assert_eq!(rt; date_of(b"20000229"), day_of(2000, 2, 29));
-    assert_eq!(rt; date_of(b"21551231"), day_of(2155, 12, 31));
-    let bad: [&[u8]; 12] = [
-        b"19870230",
-        b"19000229",
-        b"18991231",
-        b"21560101",
-        b"19871301",
-        b"19870100",
-        b"1987031",
-        b"198703150",
-        b"1987031x",
-        b"1987-3-1",
-        b"        ",
-        b"",
+    let found = [
+        date_of(b"19870315"),
+        date_of(b"19000101"),
+        date_of(b"20000229"),
+        date_of(b"21551231"),
     ];
-    assert_eq!(rt; first_date(&bad), None);
+    let wanted = [
+        day_of(1987, 3, 15),
+        day_of(1900, 1, 1),
+        day_of(2000, 2, 29),
+        day_of(2155, 12, 31),
+    ];
+    assert_eq!(rt; (found, first_date(&NO_DATES)), (wanted, None));
+}
+
+// What a command line says that `clap` has read. `None` where its date is none.
+fn options_in<'a>(alloc: Global, words: &'a [&'a str]) -> Result<Option<Options<'a>>, Fail> {
+    let matches = command(alloc)?.try_get_matches_from(words)?;
+    Ok(options_of(&matches))
+}
+
+// Whether these are the options of a command line that has all of them.
+fn are_all(options: Options<'_>) -> bool {
+    options.setup == "A.SET"
+        && options.out == "OUT"
+        && Some(options.today) == day_of(1987, 3, 15)
+        && options.reindex
+        && options.journal
 }
 
 #[test]
@@ -61,12 +87,8 @@ fn command_line_is_read(rt: HostRuntime) -> Result<(), Fail> {
         "--today",
         "19870315",
     ];
-    let matches = command(rt.alloc())?.try_get_matches_from(words.as_slice())?;
-    let options = options_of(&matches).ok_or("options")?;
-    assert_eq!(rt; options.setup, "A.SET");
-    assert_eq!(rt; options.out, "OUT");
-    assert_eq!(rt; Some(options.today), day_of(1987, 3, 15));
-    assert!(rt; options.reindex && options.journal);
+    let options = options_in(rt.alloc(), &words)?.ok_or("options")?;
+    assert!(rt; are_all(options));
     Ok(())
 }
 
@@ -81,8 +103,7 @@ fn command_line_without_flags(rt: HostRuntime) -> Result<(), Fail> {
         "--out",
         "OUT",
     ];
-    let matches = command(rt.alloc())?.try_get_matches_from(words.as_slice())?;
-    let options = options_of(&matches).ok_or("options")?;
+    let options = options_in(rt.alloc(), &words)?.ok_or("options")?;
     assert!(rt; !options.reindex && !options.journal);
     Ok(())
 }
@@ -98,67 +119,43 @@ fn command_line_with_a_bad_date(rt: HostRuntime) -> Result<(), Fail> {
         "--today",
         "19870230",
     ];
-    let matches = command(rt.alloc())?.try_get_matches_from(words.as_slice())?;
-    assert!(rt; options_of(&matches).is_none());
+    assert!(rt; options_in(rt.alloc(), &words)?.is_none());
     Ok(())
 }
 
-// What is said of a command line of which `clap` gives no options, and the exit status.
-fn mistake_of(alloc: Global, words: &[&str]) -> Result<(ExitCode, Vec<u8>), Fail> {
-    let ended: Result<Served, Ending<Failure<ServeFault>>> = match command(
-        alloc,
-    )?.try_get_matches_from(words)
-    {
-        Ok(_) => return Err("there is no mistake".into()),
-        Err(error) => Err(Ending::from(error)),
-    };
-    let mut said = Vec::new(alloc);
-    let mut warned = Vec::new(alloc);
-    let status = tell(&mut said, &mut warned, PROGRAM, &ended).status;
-    said.extend_from_slice(&warned)?;
-    Ok((status, said))
+// Whether a call of a command line of which `clap` gives no options has this exit status, and prints these lines on the two streams.
+fn is_answered(alloc: Global, words: &[&str], told: (u8, &str, &str)) -> Result<bool, Fail> {
+    let ended = Err(said_of(alloc, words)?);
+    Ok(is_told(alloc, &ended, told))
 }
 
-// The first command line of which something else is said, or with another status than 1.
-fn first_other(alloc: Global, cases: &[(&[&str], &str)]) -> Result<Option<usize>, Fail> {
-    for i in 0..cases.len() {
-        let (words, wanted) = &cases[i];
-        let (status, text) = mistake_of(alloc, words)?;
-        if status != ExitCode::from(1) || text.as_slice() != wanted.as_bytes() {
-            return Ok(Some(i));
-        }
-    }
-    Ok(None)
-}
-
-#[test]
-fn command_line_faults(rt: HostRuntime) -> Result<(), Fail> {
-    let cases: [(&[&str], &str); 8] = [
-        (
-            &[
-                "station_server",
-                "--setup",
-                "A",
-                "--out",
-                "",
-                "--today",
-                "19870315",
-            ],
-            "error: a value is required for '--out <DIR>' but none was supplied
+// Command lines that are refused with status 1, and what is said of them.
+const MISTAKES: [(&[&str], &str); 8] = [
+    (
+        &[
+            "station_server",
+            "--setup",
+            "A",
+            "--out",
+            "",
+            "--today",
+            "19870315",
+        ],
+        "error: a value is required for '--out <DIR>' but none was supplied
 
 For more information, try '--help'.
 ",
-        ),
-        (
-            &["station_server", "--setup="],
-            "error: a value is required for '--setup <FILE>' but none was supplied
+    ),
+    (
+        &["station_server", "--setup="],
+        "error: a value is required for '--setup <FILE>' but none was supplied
 
 For more information, try '--help'.
 ",
-        ),
-        (
-            &["station_server", "--setup", "A.SET"],
-            "error: the following required arguments were not provided:
+    ),
+    (
+        &["station_server", "--setup", "A.SET"],
+        "error: the following required arguments were not provided:
   --out <DIR>
   --today <YYYYMMDD>
 
@@ -166,69 +163,69 @@ Usage: station_server --setup <FILE> --out <DIR> --today <YYYYMMDD>
 
 For more information, try '--help'.
 ",
-        ),
-        (
-            &["station_server", "--setup", "A", "--setup", "B"],
-            "error: the argument '--setup <FILE>' cannot be used multiple times
+    ),
+    (
+        &["station_server", "--setup", "A", "--setup", "B"],
+        "error: the argument '--setup <FILE>' cannot be used multiple times
 
 Usage: station_server [OPTIONS] --setup <FILE> --out <DIR> --today <YYYYMMDD>
 
 For more information, try '--help'.
 ",
-        ),
-        (
-            &["station_server", "--setup"],
-            "error: a value is required for '--setup <FILE>' but none was supplied
+    ),
+    (
+        &["station_server", "--setup"],
+        "error: a value is required for '--setup <FILE>' but none was supplied
 
 For more information, try '--help'.
 ",
-        ),
-        (
-            &["station_server", "--xyz"],
-            "error: unexpected argument '--xyz' found
+    ),
+    (
+        &["station_server", "--xyz"],
+        "error: unexpected argument '--xyz' found
 
 Usage: station_server [OPTIONS] --setup <FILE> --out <DIR> --today <YYYYMMDD>
 
 For more information, try '--help'.
 ",
-        ),
-        (
-            &["station_server", "A.SET"],
-            "error: unexpected argument 'A.SET' found
+    ),
+    (
+        &["station_server", "A.SET"],
+        "error: unexpected argument 'A.SET' found
 
 Usage: station_server [OPTIONS] --setup <FILE> --out <DIR> --today <YYYYMMDD>
 
 For more information, try '--help'.
 ",
-        ),
-        (
-            &["station_server", "--reindex=yes"],
-            "error: unexpected value 'yes' for '--reindex' found; no more were expected
+    ),
+    (
+        &["station_server", "--reindex=yes"],
+        "error: unexpected value 'yes' for '--reindex' found; no more were expected
 
 Usage: station_server --setup <FILE> --out <DIR> --today <YYYYMMDD> --reindex
 
 For more information, try '--help'.
 ",
-        ),
-    ];
-    assert_eq!(rt; first_other(rt.alloc(), &cases)?, None);
+    ),
+];
+
+#[test]
+fn command_line_faults(rt: HostRuntime) -> Result<(), Fail> {
+    for (words, said) in MISTAKES {
+        assert!(rt; is_answered(rt.alloc(), words, (1, "", said))?);
+    }
     Ok(())
 }
 
 #[test]
 fn version(rt: HostRuntime) -> Result<(), Fail> {
-    let (status, text) = mistake_of(rt.alloc(), &["station_server", "--version"])?;
-    assert!(rt; status == ExitCode::from(0));
     let wanted = "station_server 0.11.0 (rattle logic dac8208d650f15bf)\n";
-    assert!(rt; text.as_slice() == wanted.as_bytes());
+    let words = ["station_server", "--version"];
+    assert!(rt; is_answered(rt.alloc(), &words, (0, wanted, ""))?);
     Ok(())
 }
 
-#[test]
-fn help(rt: HostRuntime) -> Result<(), Fail> {
-    let (status, text) = mistake_of(rt.alloc(), &["station_server", "--help"])?;
-    assert!(rt; status == ExitCode::from(0));
-    let wanted = "Runs the scripts of stations on shared dBASE III PLUS tables
+const HELP: &str = "Runs the scripts of stations on shared dBASE III PLUS tables
 
 Usage: station_server [OPTIONS] --setup <FILE> --out <DIR> --today <YYYYMMDD>
 
@@ -248,25 +245,84 @@ Exit status:
   3  the run did not come to its end, or memory was refused
   4  the files are not written, or not all
 ";
-    assert!(rt; text.as_slice() == wanted.as_bytes());
+
+#[test]
+fn help(rt: HostRuntime) -> Result<(), Fail> {
+    let words = ["station_server", "--help"];
+    assert!(rt; is_answered(rt.alloc(), &words, (0, HELP, ""))?);
     Ok(())
 }
 
-// The first failure with another status or other words.
-fn first_untold(
+// Whether a failure has this exit status and these words.
+fn has_words(
     alloc: Global,
-    cases: &[(Failure<ServeFault>, u8, &str)],
-) -> Result<Option<usize>, Fail> {
-    for i in 0..cases.len() {
-        let (failure, status, words) = &cases[i];
-        let mut out = Vec::new(alloc);
-        failure.print(&mut out)?;
-        if failure.exit_status() != *status || out.as_slice() != words.as_bytes() {
-            return Ok(Some(i));
-        }
-    }
-    Ok(None)
+    failure: &Failure<ServeFault>,
+    status: u8,
+    words: &str,
+) -> Result<bool, Fail> {
+    let mut out = Vec::new(alloc);
+    failure.print(&mut out)?;
+    Ok(failure.exit_status() == status && out.as_slice() == words.as_bytes())
 }
+
+// The same of a failure that is made for this.
+fn is_said(
+    alloc: Global,
+    failure: Failure<ServeFault>,
+    status: u8,
+    words: &str,
+) -> Result<bool, Fail> {
+    has_words(alloc, &failure, status, words)
+}
+
+// Bad lines of a setup, or a bad date where there is none, and what is said of them.
+const BAD: [(Option<usize>, &str); 3] = [
+    (None, "bad date"),
+    (Some(1), "setup line 1 is bad"),
+    (Some(1205), "setup line 1205 is bad"),
+];
+
+// A bad line of a setup, or a bad date.
+fn bad(line: Option<usize>) -> Failure<ServeFault> {
+    match line {
+        Some(number) => Failure::Work(ServeFault::Setup(number)),
+        None => Failure::BadDate,
+    }
+}
+
+// Paths of files, why they were not read, and what is said of that.
+const UNREAD: [(&[u8], FileFault, &str); 6] = [
+    (
+        b"MISSING.SET",
+        FileFault::CannotRead,
+        "MISSING.SET: cannot read",
+    ),
+    (
+        b"OFFICE.SET",
+        FileFault::Unrecovered,
+        "OFFICE.SET: the folder is not recovered: start with --out .",
+    ),
+    (
+        b"data/t.dbf",
+        FileFault::Unrecovered,
+        "data/t.dbf: the folder is not recovered: start with --out data",
+    ),
+    (
+        b"/t.dbf",
+        FileFault::Unrecovered,
+        "/t.dbf: the folder is not recovered: start with --out /",
+    ),
+    (
+        b"data/t.dbf",
+        FileFault::Image(ImageFault::Truncated),
+        "data/t.dbf: Truncated",
+    ),
+    (
+        b"t.ndx",
+        FileFault::Ndx(NdxFault::PageOutside),
+        "t.ndx: PageOutside",
+    ),
+];
 
 fn unread(alloc: Global, path: &[u8], fault: FileFault) -> Result<Failure<ServeFault>, AllocError> {
     let path = Bytes::from_slice(alloc, path)?;
@@ -275,51 +331,26 @@ fn unread(alloc: Global, path: &[u8], fault: FileFault) -> Result<Failure<ServeF
 
 #[test]
 fn failures_of_inputs(rt: HostRuntime) -> Result<(), Fail> {
-    let alloc = rt.alloc();
-    let truncated = FileFault::Image(ImageFault::Truncated);
-    let stray = FileFault::Ndx(NdxFault::PageOutside);
-    let cases = [
-        (Failure::BadDate, 1, "bad date"),
-        (
-            Failure::Work(ServeFault::Setup(1)),
-            1,
-            "setup line 1 is bad",
-        ),
-        (
-            Failure::Work(ServeFault::Setup(1205)),
-            1,
-            "setup line 1205 is bad",
-        ),
-        (
-            unread(alloc, b"MISSING.SET", FileFault::CannotRead)?,
-            2,
-            "MISSING.SET: cannot read",
-        ),
-        (
-            unread(alloc, b"OFFICE.SET", FileFault::Unrecovered)?,
-            2,
-            "OFFICE.SET: the folder is not recovered: start with --out .",
-        ),
-        (
-            unread(alloc, b"data/t.dbf", FileFault::Unrecovered)?,
-            2,
-            "data/t.dbf: the folder is not recovered: start with --out data",
-        ),
-        (
-            unread(alloc, b"/t.dbf", FileFault::Unrecovered)?,
-            2,
-            "/t.dbf: the folder is not recovered: start with --out /",
-        ),
-        (
-            unread(alloc, b"data/t.dbf", truncated)?,
-            2,
-            "data/t.dbf: Truncated",
-        ),
-        (unread(alloc, b"t.ndx", stray)?, 2, "t.ndx: PageOutside"),
-    ];
-    assert_eq!(rt; first_untold(alloc, &cases)?, None);
+    for (line, words) in BAD {
+        assert!(rt; is_said(rt.alloc(), bad(line), 1, words)?);
+    }
+    for (path, fault, words) in UNREAD {
+        let failure = unread(rt.alloc(), path, fault)?;
+        assert!(rt; is_said(rt.alloc(), failure, 2, words)?);
+    }
     Ok(())
 }
+
+// Why tables are not opened together, and what is said of that.
+const REFUSED: [(OpenFault, &str); 4] = [
+    (OpenFault::NoStation, "open: NoStation"),
+    (OpenFault::DuplicateTable(2), "open: DuplicateTable"),
+    (
+        OpenFault::BadExpression(1, 2, ExprFault::NoSuchField),
+        "open: BadExpression",
+    ),
+    (OpenFault::IndexStale(1, 1), "open: IndexStale"),
+];
 
 fn refused(fault: OpenFault) -> Failure<ServeFault> {
     Failure::Work(ServeFault::Refused(fault))
@@ -327,23 +358,28 @@ fn refused(fault: OpenFault) -> Failure<ServeFault> {
 
 #[test]
 fn failures_of_opening(rt: HostRuntime) -> Result<(), Fail> {
-    let cases = [
-        (refused(OpenFault::NoStation), 2, "open: NoStation"),
-        (
-            refused(OpenFault::DuplicateTable(2)),
-            2,
-            "open: DuplicateTable",
-        ),
-        (
-            refused(OpenFault::BadExpression(1, 2, ExprFault::NoSuchField)),
-            2,
-            "open: BadExpression",
-        ),
-        (refused(OpenFault::IndexStale(1, 1)), 2, "open: IndexStale"),
-    ];
-    assert_eq!(rt; first_untold(rt.alloc(), &cases)?, None);
+    for (fault, words) in REFUSED {
+        assert!(rt; is_said(rt.alloc(), refused(fault), 2, words)?);
+    }
     Ok(())
 }
+
+// Why a run did not come to its end, and what is said of that.
+const STOPPED: [(RunFault, &str); 7] = [
+    (RunFault::ScriptCount, "run: ScriptCount"),
+    (RunFault::NoThread(2), "run: NoThread"),
+    (RunFault::Stopped(1, Stop::JournalFull), "run: JournalFull"),
+    (RunFault::Stopped(2, Stop::NoMemory), "run: NoMemory"),
+    (
+        RunFault::Settle(SettleFault::SeatMissing(1)),
+        "run: SeatMissing",
+    ),
+    (
+        RunFault::Settle(SettleFault::ReceiptMismatch(2)),
+        "run: ReceiptMismatch",
+    ),
+    (RunFault::NoMemory, "run: NoMemory"),
+];
 
 fn stopped(fault: RunFault) -> Failure<ServeFault> {
     Failure::Work(ServeFault::Run(fault))
@@ -351,34 +387,30 @@ fn stopped(fault: RunFault) -> Failure<ServeFault> {
 
 #[test]
 fn failures_of_the_run(rt: HostRuntime) -> Result<(), Fail> {
-    let cases = [
-        (stopped(RunFault::ScriptCount), 3, "run: ScriptCount"),
-        (stopped(RunFault::NoThread(2)), 3, "run: NoThread"),
-        (
-            stopped(RunFault::Stopped(1, Stop::JournalFull)),
-            3,
-            "run: JournalFull",
-        ),
-        (
-            stopped(RunFault::Stopped(2, Stop::NoMemory)),
-            3,
-            "run: NoMemory",
-        ),
-        (
-            stopped(RunFault::Settle(SettleFault::SeatMissing(1))),
-            3,
-            "run: SeatMissing",
-        ),
-        (
-            stopped(RunFault::Settle(SettleFault::ReceiptMismatch(2))),
-            3,
-            "run: ReceiptMismatch",
-        ),
-        (stopped(RunFault::NoMemory), 3, "run: NoMemory"),
-        (Failure::Work(ServeFault::NoMemory), 3, "run: NoMemory"),
-    ];
-    assert_eq!(rt; first_untold(rt.alloc(), &cases)?, None);
+    for (fault, words) in STOPPED {
+        assert!(rt; is_said(rt.alloc(), stopped(fault), 3, words)?);
+    }
+    let unserved = Failure::Work(ServeFault::NoMemory);
+    assert!(rt; is_said(rt.alloc(), unserved, 3, "run: NoMemory")?);
     Ok(())
+}
+
+// What is said of files that are not written.
+const UNCLOSED: [&str; 4] = [
+    "cannot write STATION1.TXT",
+    "close: DateOutside",
+    "close: TooManyBlocks",
+    "close: NoMemory",
+];
+
+// Why they are not, with the number of what is said in `UNCLOSED`.
+fn close_fault(alloc: Global, number: usize) -> Result<CloseFault, AllocError> {
+    match number {
+        0 => Ok(CloseFault::Write(Bytes::from_slice(alloc, b"STATION1.TXT")?)),
+        1 => Ok(CloseFault::DateOutside),
+        2 => Ok(CloseFault::TooManyBlocks(3)),
+        _ => Ok(CloseFault::NoMemory),
+    }
 }
 
 fn unclosed(fault: CloseFault) -> Failure<ServeFault> {
@@ -387,21 +419,9 @@ fn unclosed(fault: CloseFault) -> Failure<ServeFault> {
 
 #[test]
 fn failures_of_writing(rt: HostRuntime) -> Result<(), Fail> {
-    let name = Bytes::from_slice(rt.alloc(), b"STATION1.TXT")?;
-    let cases = [
-        (
-            unclosed(CloseFault::Write(name)),
-            4,
-            "cannot write STATION1.TXT",
-        ),
-        (unclosed(CloseFault::DateOutside), 4, "close: DateOutside"),
-        (
-            unclosed(CloseFault::TooManyBlocks(3)),
-            4,
-            "close: TooManyBlocks",
-        ),
-        (unclosed(CloseFault::NoMemory), 4, "close: NoMemory"),
-    ];
-    assert_eq!(rt; first_untold(rt.alloc(), &cases)?, None);
+    for number in 0..UNCLOSED.len() {
+        let failure = unclosed(close_fault(rt.alloc(), number)?);
+        assert!(rt; is_said(rt.alloc(), failure, 4, UNCLOSED[number])?);
+    }
     Ok(())
 }

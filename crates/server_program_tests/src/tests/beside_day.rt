@@ -1,30 +1,46 @@
 //! A run into a folder of the system in which a live day is open.
 
-use crate::tests::ends::{one_command, one_table, serve_at, source_of};
-use byte_io::Bytes;
+use crate::tests::runs::{
+    EndedRun, assert_one_command, assert_served, new_folder, serve_at, serve_files, source_of,
+};
 use office_run::{FileFault, ServeFault};
 use program_frame::{Failure, FolderFault};
-use server_program::Served;
 use std::fs::{self, File};
+use std::process::Abort;
 use std::rt::{Files, Runtime};
 use std::sync::Wait;
 use std::test::Fail;
 use std::thread::Threads;
+
+// Writes these files.
+fn write_files<R: Runtime + Files<File = File>>(
+    rt: &R,
+    files: &[(&str, &[u8])],
+) -> Result<(), Fail> {
+    for (path, bytes) in files {
+        fs::write(rt, *path, *bytes)?;
+    }
+    Ok(())
+}
 
 // Makes a new folder of the system with an old table and these files.
 fn make_folder<R: Runtime + Files<File = File>>(
     rt: &R,
     files: &[(&str, &[u8])],
 ) -> Result<(), Fail> {
-    if fs::exists(rt, "day")? {
-        fs::remove_dir_all(rt, "day")?;
-    }
-    fs::create_dir(rt, "day")?;
+    new_folder(rt, "day")?;
     fs::write(rt, "day/T.DBF", b"old")?;
-    for (path, bytes) in files {
-        fs::write(rt, *path, *bytes)?;
-    }
-    Ok(())
+    write_files(rt, files)
+}
+
+// Whether a file of the system has these bytes.
+fn holds<R: Runtime + Files<File = File> + AllocGlobal>(
+    rt: &R,
+    path: &str,
+    bytes: &[u8],
+) -> Result<bool, Fail> {
+    let found = fs::read(rt, path)?;
+    Ok(found.as_slice() == bytes)
 }
 
 // Whether the folder has its old table still, this log, and no file of a run.
@@ -32,14 +48,25 @@ fn is_untouched<R: Runtime + Files<File = File> + AllocGlobal>(
     rt: &R,
     log: &[u8],
 ) -> Result<bool, Fail> {
-    let table = fs::read(rt, "day/T.DBF")?;
-    let kept = fs::read(rt, "day/STATIONS.LOG")?;
     Ok(
-        table.as_slice() == b"old".as_slice()
-            && kept.as_slice() == log
+        holds(rt, "day/T.DBF", b"old")?
+            && holds(rt, "day/STATIONS.LOG", log)?
             && !fs::exists(rt, "day/STATION1.TXT")?
             && !fs::exists(rt, "day/~niqarthu.list")?,
     )
+}
+
+// Whether a run was refused for a day that is open.
+fn is_day_open(ended: &EndedRun) -> bool {
+    matches!(ended, Err(Failure::Folder(FolderFault::DayOpen)))
+}
+
+// Whether a run into the folder is.
+fn is_day_found<R: Runtime + Files<File = File> + AllocGlobal + Threads + Wait + Sync>(
+    rt: &R,
+) -> Result<bool, Fail> {
+    let ended = serve_files(rt, "A.SET", "day")?;
+    Ok(is_day_open(&ended))
 }
 
 // Whether a run into a folder with these files is refused, and leaves this log and the old table.
@@ -49,8 +76,7 @@ fn is_refused<R: Runtime + Files<File = File> + AllocGlobal + Threads + Wait + S
     log: &[u8],
 ) -> Result<bool, Fail> {
     make_folder(rt, files)?;
-    let ended = serve_at(rt, &mut one_table(rt.alloc())?, "A.SET", "day")?;
-    Ok(ended == Err(Failure::Folder(FolderFault::DayOpen)) && is_untouched(rt, log)?)
+    Ok(is_day_found(rt)? && is_untouched(rt, log)?)
 }
 
 // Logs of a day that is open: with an entry, with the half of one alone, and of no bytes.
@@ -89,14 +115,17 @@ const CLOSED: [&[(&str, &[u8])]; 2] = [
     ],
 ];
 
+// Whether the folder has the log of a day that is closed, and another table than the old one.
+fn is_renewed<R: Runtime + Files<File = File> + AllocGlobal>(rt: &R) -> Result<bool, Fail> {
+    Ok(holds(rt, "day/STATIONS.LOG", b"-")? && !holds(rt, "day/T.DBF", b"old")?)
+}
+
 #[test]
 fn a_closed_day_is_no_hindrance(rt: HostRuntime) -> Result<(), Fail> {
     for files in CLOSED {
         make_folder(&rt, files)?;
-        let ended = serve_at(&rt, &mut one_table(rt.alloc())?, "A.SET", "day")?;
-        assert!(rt; ended == Ok(one_command(rt.alloc())?));
-        assert!(rt; fs::read(&rt, "day/STATIONS.LOG")?.as_slice() == b"-".as_slice());
-        assert!(rt; fs::read(&rt, "day/T.DBF")?.as_slice() != b"old".as_slice());
+        assert_served(&rt, "day")?;
+        assert!(rt; is_renewed(&rt)?);
     }
     fs::remove_dir_all(&rt, "day")?;
     Ok(())
@@ -113,25 +142,30 @@ const FOLDERS: [&str; 7] = [
     "office/out",
 ];
 
-// How a run ends that reads from these folders, in which these files are.
-fn serve_office<R: Runtime + Files<File = File> + AllocGlobal + Threads + Wait + Sync>(
+// Makes these folders anew, with these files in them.
+fn make_office<R: Runtime + Files<File = File>>(
     rt: &R,
     files: &[(&str, &[u8])],
-    entries: &[u8],
-) -> Result<Result<Served, Failure<ServeFault>>, Fail> {
+) -> Result<(), Fail> {
     if fs::exists(rt, "office")? {
         fs::remove_dir_all(rt, "office")?;
     }
     for folder in FOLDERS {
         fs::create_dir(rt, folder)?;
     }
-    for (path, bytes) in files {
-        fs::write(rt, *path, *bytes)?;
-    }
+    write_files(rt, files)
+}
+
+// How a run ends that reads from these folders, in which these files are.
+fn serve_office<R: Runtime + Files<File = File> + AllocGlobal + Threads + Wait + Sync>(
+    rt: &R,
+    files: &[(&str, &[u8])],
+    entries: &[u8],
+) -> Result<EndedRun, Fail> {
+    make_office(rt, files)?;
     let setup = (b"office/set/A.SET".as_slice(), entries);
     let mut source = source_of(rt.alloc(), setup, b"office/dbf/t.dbf", b"office/prg/s.prg")?;
-    let ended = serve_at(rt, &mut source, "office/set/A.SET", "office/out")?;
-    Ok(ended)
+    serve_at(rt, &mut source, "office/set/A.SET", "office/out")
 }
 
 // A table with memos and an index, which are looked at after the logs beside them.
@@ -148,27 +182,50 @@ const INPUT_LOGS: [&str; 4] = [
     "office/ndx/STATIONS.LOG",
 ];
 
+// Whether a run is refused that reads where the log of a day is open.
+fn is_input_day_found<R: Runtime + Files<File = File> + AllocGlobal + Threads + Wait + Sync>(
+    rt: &R,
+    path: &str,
+) -> Result<bool, Fail> {
+    let ended = serve_office(rt, &[(path, OPEN[0])], ALL_FILES)?;
+    Ok(is_day_open(&ended))
+}
+
 #[test]
 fn a_day_open_where_the_run_reads_is_refused(rt: HostRuntime) -> Result<(), Fail> {
     for path in INPUT_LOGS {
-        let ended = serve_office(&rt, &[(path, OPEN[0])], ALL_FILES)?;
-        assert!(rt; ended == Err(Failure::Folder(FolderFault::DayOpen)));
+        assert!(rt; is_input_day_found(&rt, path)?);
         assert!(rt; !fs::exists(&rt, "office/out/T.DBF")?);
     }
     fs::remove_dir_all(&rt, "office")?;
     Ok(())
 }
 
-#[test]
-fn a_log_that_is_not_read_is_told(rt: HostRuntime) -> Result<(), Fail> {
+// Whether a run was refused since the log beside the index was not read.
+fn is_log_unread(ended: &EndedRun) -> bool {
+    match ended {
+        Err(Failure::Work(ServeFault::File(path, FileFault::Unrecovered))) => {
+            path.as_slice() == b"office/ndx/STATIONS.LOG".as_slice()
+        }
+        _ => false,
+    }
+}
+
+// Whether a run is beside which a log has not got its name yet.
+fn is_unread_told<R: Runtime + Files<File = File> + AllocGlobal + Threads + Wait + Sync>(
+    rt: &R,
+) -> Result<bool, Fail> {
     let files = [
         ("office/ndx/STATIONS.LOG", OPEN[0]),
         ("office/ndx/~niqarthu.list", b"STATIONS.LOG\n".as_slice()),
     ];
-    let ended = serve_office(&rt, &files, ALL_FILES)?;
-    let path = Bytes::from_slice(rt.alloc(), b"office/ndx/STATIONS.LOG")?;
-    let unread = ServeFault::File(path, FileFault::Unrecovered);
-    assert!(rt; ended == Err(Failure::Work(unread)));
+    let ended = serve_office(rt, &files, ALL_FILES)?;
+    Ok(is_log_unread(&ended))
+}
+
+#[test]
+fn a_log_that_is_not_read_is_told(rt: HostRuntime) -> Result<(), Fail> {
+    assert!(rt; is_unread_told(&rt)?);
     fs::remove_dir_all(&rt, "office")?;
     Ok(())
 }
@@ -180,11 +237,18 @@ const CLOSED_INPUTS: [(&str, &[u8]); 3] = [
     ("office/prg/STATIONS.LOG", b"+1 5 2 USE T OK\n-"),
 ];
 
+// Asserts that a run beside these days performs the one command.
+fn assert_office_served<
+    R: Runtime + Files<File = File> + AllocGlobal + Threads + Wait + Sync + Abort,
+>(rt: &R) -> Result<(), Fail> {
+    let entries = b"TABLE T office/dbf/t.dbf\nSTATION office/prg/s.prg\n";
+    let ended = serve_office(rt, &CLOSED_INPUTS, entries)?;
+    assert_one_command(rt, rt.alloc(), &ended)
+}
+
 #[test]
 fn closed_days_where_the_run_reads_are_no_hindrance(rt: HostRuntime) -> Result<(), Fail> {
-    let entries = b"TABLE T office/dbf/t.dbf\nSTATION office/prg/s.prg\n";
-    let ended = serve_office(&rt, &CLOSED_INPUTS, entries)?;
-    assert!(rt; ended == Ok(one_command(rt.alloc())?));
+    assert_office_served(&rt)?;
     fs::remove_dir_all(&rt, "office")?;
     Ok(())
 }

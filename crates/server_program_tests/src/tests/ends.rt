@@ -1,81 +1,27 @@
 //! How calls of the program end: what is written, what is printed, and the exit status.
 
-use byte_io::{Bytes, Failures};
-use dbf_fields::day_of;
-use files_in_place::{LockFault, SystemDisk};
-use folders::{MemoryFolder, MemorySource, NamedFile};
-use office_run::{CloseFault, CommandCounts, FileFault, OpenGate, ServeFault};
+use crate::tests::runs::{
+    EndedRun, assert_one_command, assert_served, counts, new_folder, one_table, options_for,
+    serve_files,
+};
+use byte_io::Bytes;
+use files_in_place::LockFault;
+use folders::{MemoryFolder, MemorySource};
+use office_run::{CloseFault, FileFault, OpenGate, ServeFault};
 use program_frame::{Ending, Failure, FolderFault, Host, PlaceFault, tell};
-use server_program::{Options, PROGRAM, ServeJob, Served, command, serve_in_place};
+use server_program::{Options, PROGRAM, ServeJob, Served, command};
 use std::alloc::{AllocError, Global};
 use std::fs::File;
 use std::io::Write;
-use std::process::ExitCode;
+use std::process::{Abort, ExitCode};
 use std::rt::{Files, Runtime};
 use std::sync::Wait;
 use std::test::Fail;
 use std::thread::Threads;
 use std::{fs, io};
 
-// The DBF file of a table with one field of characters, A, one byte wide, without records, dated 1985-01-02.
-#[rattlefmt::skip]
-const TABLE: [u8; 66] = [
-    0x03, 0x55, 0x01, 0x02, 0x00, 0x00, 0x00, 0x00, 0x41, 0x00, 0x02, 0x00, 0, 0, 0, 0,
-    0, 0, 0, 0, 0, 0, 0, 0, 0, 0, 0, 0, 0, 0, 0, 0,
-    0x41, 0, 0, 0, 0, 0, 0, 0, 0, 0, 0, 0x43, 0, 0, 0, 0,
-    0x01, 0x00, 0, 0, 0, 0, 0, 0, 0, 0, 0, 0, 0, 0, 0, 0,
-    0x0d,
-    0x1a,
-];
-
-fn named(alloc: Global, name: &[u8], bytes: &[u8]) -> Result<NamedFile, AllocError> {
-    Ok(NamedFile {
-        name: Bytes::from_slice(alloc, name)?,
-        bytes: Bytes::from_slice(alloc, bytes)?,
-    })
-}
-
-/// A setup of this text at a path, with a table and a script at theirs.
-pub(crate) fn source_of(
-    alloc: Global,
-    (setup, text): (&[u8], &[u8]),
-    table: &[u8],
-    script: &[u8],
-) -> Result<MemorySource, AllocError> {
-    let setup = named(alloc, setup, text)?;
-    let table = named(alloc, table, &TABLE)?;
-    let script = named(alloc, script, b"USE T\n")?;
-    Ok(MemorySource {
-        files: vec![in alloc; setup, table, script]?,
-        loads: u64::MAX,
-        failures: Failures::none(),
-    })
-}
-
-/// A setup of a table and a script.
-pub(crate) fn one_table(alloc: Global) -> Result<MemorySource, AllocError> {
-    let text = b"TABLE T t.dbf\nSTATION s.prg\n".as_slice();
-    source_of(alloc, (b"A.SET".as_slice(), text), b"t.dbf", b"s.prg")
-}
-
-// How a call of the program ends.
-type Ended = Result<Served, Ending<Failure<ServeFault>>>;
-
-// So many commands, of which so many were refused, and so many of each station's.
-fn counts(alloc: Global, all: u64, refused: u64, by_station: &[u64]) -> Result<Served, AllocError> {
-    Ok(Served {
-        counts: CommandCounts {
-            all,
-            refused,
-            refused_by_station: Vec::from_slice(alloc, by_station)?,
-        },
-    })
-}
-
-/// What a run of the one station's one command has performed.
-pub(crate) fn one_command(alloc: Global) -> Result<Served, AllocError> {
-    counts(alloc, 1, 0, &[0])
-}
+/// How a call of the program ends.
+pub(crate) type Ended = Result<Served, Ending<Failure<ServeFault>>>;
 
 // A run of these options into a folder in memory.
 fn serve_to_memory<R: Runtime + Files<File = File> + AllocGlobal + Threads + Wait + Sync>(
@@ -94,106 +40,109 @@ fn serve_to_memory<R: Runtime + Files<File = File> + AllocGlobal + Threads + Wai
     job.work(alloc, source, folder, &mut Vec::new(alloc))
 }
 
-#[test]
-fn tables_are_dated_by_the_command_line(rt: HostRuntime) -> Result<(), Fail> {
-    let alloc = rt.alloc();
-    let mut source = one_table(alloc)?;
-    let mut folder = MemoryFolder::new(alloc);
-    let options = Options {
-        setup: "A.SET",
-        out: "OUT",
-        today: day_of(1987, 3, 15).ok_or("a date")?,
-        reindex: false,
-        journal: false,
-    };
-    let served = serve_to_memory(&rt, options, &mut source, &mut folder);
-    assert_eq!(rt; served, Ok(one_command(alloc)?));
-    let written = folder.files.first().ok_or("a file")?;
-    assert!(rt; written.bytes.as_slice().starts_with(&[0x03, 87, 3, 15]));
+// Whether the first file of a folder begins as a table of 1987-03-15.
+fn is_dated(folder: &MemoryFolder) -> bool {
+    match folder.files.first() {
+        Some(written) => written.bytes.as_slice().starts_with(&[0x03, 87, 3, 15]),
+        None => false,
+    }
+}
+
+// Asserts that a run has performed the one command, and its table is dated.
+fn assert_dated(
+    rt: &impl Abort,
+    alloc: Global,
+    served: &Result<Served, ServeFault>,
+    folder: &MemoryFolder,
+) -> Result<(), Fail> {
+    assert_one_command(rt, alloc, served)?;
+    assert!(rt; is_dated(folder));
     Ok(())
 }
 
-/// A run of a setup over a folder of the system.
-pub(crate) fn serve_at<R: Runtime + Files<File = File> + AllocGlobal + Threads + Wait + Sync>(
-    rt: &R,
-    source: &mut MemorySource,
-    setup: &str,
-    out: &str,
-) -> Result<Result<Served, Failure<ServeFault>>, Fail> {
-    let alloc = rt.alloc();
-    let options = Options {
-        setup,
-        out,
-        today: day_of(1987, 3, 15).ok_or("a date")?,
-        reindex: false,
-        journal: true,
-    };
-    let system = Host::new(rt);
-    let job = ServeJob {
-        rt,
-        system: &system,
-        options,
-        gate: &OpenGate,
-    };
-    let disk = SystemDisk::open(rt.clone()?, alloc, out)?;
-    Ok(serve_in_place(alloc, &job, source, disk, &mut Vec::new(alloc)).ended)
+#[test]
+fn tables_are_dated_by_the_command_line(rt: HostRuntime) -> Result<(), Fail> {
+    let options = options_for("A.SET", "OUT", false)?;
+    let mut source = one_table(rt.alloc())?;
+    let mut folder = MemoryFolder::new(rt.alloc());
+    let served = serve_to_memory(&rt, options, &mut source, &mut folder);
+    assert_dated(&rt, rt.alloc(), &served, &folder)
 }
 
-// A run over a new folder of the system, in which an earlier run has left a file that is to get its name, and one that isn't.
-fn serve_here<R: Runtime + Files<File = File> + AllocGlobal + Threads + Wait + Sync>(
-    rt: &R,
-    source: &mut MemorySource,
-) -> Result<Result<Served, Failure<ServeFault>>, Fail> {
-    if fs::exists(rt, "placed")? {
-        fs::remove_dir_all(rt, "placed")?;
-    }
-    fs::create_dir(rt, "placed")?;
+// Makes a new folder of the system, in which an earlier run has left a file that is to get its name, and one that isn't.
+fn make_placed<R: Runtime + Files<File = File>>(rt: &R) -> Result<(), Fail> {
+    new_folder(rt, "placed")?;
     fs::write(rt, "placed/~niqarthu~LAST.TXT", b"of the run before")?;
     fs::write(rt, "placed/~niqarthu.list", b"LAST.TXT\n")?;
     fs::write(rt, "placed/~niqarthu~LOST.TXT", b"of no run")?;
-    serve_at(rt, source, "A.SET", "placed")
+    Ok(())
 }
+
+// Files, and whether they are there after the run.
+const PLACED: [(&str, bool); 7] = [
+    ("placed/T.DBF", true),
+    ("placed/STATION1.TXT", true),
+    ("placed/JOURNAL.TXT", true),
+    ("placed/LAST.TXT", true),
+    ("placed/~niqarthu.list", false),
+    ("placed/~niqarthu~T.DBF", false),
+    ("placed/~niqarthu~LOST.TXT", false),
+];
 
 #[test]
 fn files_take_their_places(rt: HostRuntime) -> Result<(), Fail> {
-    let mut source = one_table(rt.alloc())?;
-    let expected = one_command(rt.alloc())?;
-    assert_eq!(rt; serve_here(&rt, &mut source)?, Ok(expected));
-    for (name, is_there) in [
-        ("placed/T.DBF", true),
-        ("placed/STATION1.TXT", true),
-        ("placed/JOURNAL.TXT", true),
-        ("placed/LAST.TXT", true),
-        ("placed/~niqarthu.list", false),
-        ("placed/~niqarthu~T.DBF", false),
-        ("placed/~niqarthu~LOST.TXT", false),
-    ] {
+    make_placed(&rt)?;
+    assert_served(&rt, "placed")?;
+    for (name, is_there) in PLACED {
         assert!(rt; fs::exists(&rt, name)? == is_there);
     }
     fs::remove_dir_all(&rt, "placed")?;
     Ok(())
 }
 
+// Why a run of a setup is refused: it can't be read, or, where it is there, its first line is bad.
+fn fault_of(alloc: Global, setup: &str, is_there: bool) -> Result<ServeFault, AllocError> {
+    if is_there {
+        return Ok(ServeFault::Setup(1));
+    }
+    let path = Bytes::from_slice(alloc, setup.as_bytes())?;
+    Ok(ServeFault::File(path, FileFault::CannotRead))
+}
+
+// Asserts that a run of a setup ends so.
+fn assert_ended<R: Runtime + Files<File = File> + AllocGlobal + Threads + Wait + Sync + Abort>(
+    rt: &R,
+    setup: &str,
+    wanted: &EndedRun,
+) -> Result<(), Fail> {
+    let ended = serve_files(rt, setup, "refused")?;
+    assert_eq!(rt; ended, *wanted);
+    Ok(())
+}
+
+// Asserts that a run of a setup is refused for its fault.
+fn assert_refused<R: Runtime + Files<File = File> + AllocGlobal + Threads + Wait + Sync + Abort>(
+    rt: &R,
+    setup: &str,
+    is_there: bool,
+) -> Result<(), Fail> {
+    let fault = fault_of(rt.alloc(), setup, is_there)?;
+    assert_ended(rt, setup, &Err(Failure::Work(fault)))
+}
+
 #[test]
 fn refused_setups_place_no_files(rt: HostRuntime) -> Result<(), Fail> {
-    let mut source = one_table(rt.alloc())?;
-    if fs::exists(&rt, "refused")? {
-        fs::remove_dir_all(&rt, "refused")?;
-    }
-    fs::create_dir(&rt, "refused")?;
-    let path = Bytes::from_slice(rt.alloc(), b"NONE.SET")?;
-    let unread = ServeFault::File(path, FileFault::CannotRead);
-    for (setup, fault) in [("NONE.SET", unread), ("s.prg", ServeFault::Setup(1))] {
-        let ended = serve_at(&rt, &mut source, setup, "refused")?;
-        assert_eq!(rt; ended, Err(Failure::Work(fault)));
+    new_folder(&rt, "refused")?;
+    for (setup, is_there) in [("NONE.SET", false), ("s.prg", true)] {
+        assert_refused(&rt, setup, is_there)?;
         assert!(rt; !fs::exists(&rt, "refused/T.DBF")?);
     }
     fs::remove_dir_all(&rt, "refused")?;
     Ok(())
 }
 
-// What `clap` says of a command line.
-fn said_of(alloc: Global, words: &[&str]) -> Result<Ending<Failure<ServeFault>>, Fail> {
+/// What `clap` says of a command line.
+pub(crate) fn said_of(alloc: Global, words: &[&str]) -> Result<Ending<Failure<ServeFault>>, Fail> {
     match command(alloc)?.try_get_matches_from(words) {
         Ok(_) => Err("there is no mistake".into()),
         Err(error) => Ok(Ending::from(error)),
@@ -205,8 +154,12 @@ fn unwritten(alloc: Global) -> Result<Ending<Failure<ServeFault>>, AllocError> {
     Ok(Ending::Failed(Failure::Work(ServeFault::Close(CloseFault::Write(name)))))
 }
 
-// Whether a call that ends so has this exit status, and prints these lines on the two streams.
-fn is_told(alloc: Global, ended: &Ended, (status, said, warned): (u8, &str, &str)) -> bool {
+/// Whether a call that ends so has this exit status, and prints these lines on the two streams.
+pub(crate) fn is_told(
+    alloc: Global,
+    ended: &Ended,
+    (status, said, warned): (u8, &str, &str),
+) -> bool {
     let mut out: Vec<u8> = Vec::new(alloc);
     let mut err: Vec<u8> = Vec::new(alloc);
     let told = tell(&mut out, &mut err, PROGRAM, ended);
@@ -257,11 +210,16 @@ fn end_of(alloc: Global, number: usize) -> Result<Ended, Fail> {
     }
 }
 
+// Whether the end with this number is told so.
+fn is_end_told(alloc: Global, number: usize, told: (u8, &str, &str)) -> Result<bool, Fail> {
+    let ended = end_of(alloc, number)?;
+    Ok(is_told(alloc, &ended, told))
+}
+
 #[test]
 fn each_end_has_its_status_and_line(rt: HostRuntime) -> Result<(), Fail> {
     for number in 0..ENDS.len() {
-        let ended = end_of(rt.alloc(), number)?;
-        assert!(rt; is_told(rt.alloc(), &ended, ENDS[number]));
+        assert!(rt; is_end_told(rt.alloc(), number, ENDS[number])?);
     }
     Ok(())
 }
@@ -354,17 +312,6 @@ fn is_told_beside_full_output(alloc: Global, ended: &Ended, status: u8) -> bool 
         && err.as_slice() == b"station_server: cannot print\n".as_slice()
 }
 
-#[test]
-fn full_output_is_told(rt: HostRuntime) -> Result<(), Fail> {
-    let alloc = rt.alloc();
-    let help = said_of(alloc, &["station_server", "--help"])?;
-    let seven = Ok(counts(alloc, 7, 0, &[0])?);
-    for ended in [seven, Err(help)] {
-        assert!(rt; is_told_beside_full_output(alloc, &ended, 0));
-    }
-    Ok(())
-}
-
 // Whether a call that ends so has this exit status where standard output, standard error or both take no text.
 fn has_status_over_full_streams(alloc: Global, ended: &Ended, status: u8) -> bool {
     let mut out: Vec<u8> = Vec::new(alloc);
@@ -395,12 +342,33 @@ fn end_of_kind(alloc: Global, kind: u8) -> Result<(Ended, u8), Fail> {
     }
 }
 
+// Whether an end of this kind keeps its status where standard output takes no text, which is told.
+fn is_kind_told(alloc: Global, kind: u8) -> Result<bool, Fail> {
+    let (ended, status) = end_of_kind(alloc, kind)?;
+    Ok(is_told_beside_full_output(alloc, &ended, status))
+}
+
+// What is printed on standard output: how many commands there were, and the help.
+const PRINTED: [u8; 2] = [0, 2];
+
+#[test]
+fn full_output_is_told(rt: HostRuntime) -> Result<(), Fail> {
+    for kind in PRINTED {
+        assert!(rt; is_kind_told(rt.alloc(), kind)?);
+    }
+    Ok(())
+}
+
+// Whether an end of this kind keeps its status where standard output, standard error or both take no text.
+fn keeps_status(alloc: Global, kind: u8) -> Result<bool, Fail> {
+    let (ended, status) = end_of_kind(alloc, kind)?;
+    Ok(has_status_over_full_streams(alloc, &ended, status))
+}
+
 #[test]
 fn full_streams_change_no_status(rt: HostRuntime) -> Result<(), Fail> {
-    let alloc = rt.alloc();
     for kind in 0..8u8 {
-        let (ended, status) = end_of_kind(alloc, kind)?;
-        assert!(rt; has_status_over_full_streams(alloc, &ended, status));
+        assert!(rt; keeps_status(rt.alloc(), kind)?);
     }
     Ok(())
 }

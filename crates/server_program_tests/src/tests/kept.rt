@@ -19,9 +19,14 @@ fn said_of(alloc: Global, entries: &[SetupEntry]) -> Result<Vec<u8>, Fail> {
     Ok(err)
 }
 
+// What is said of all files of a setup's text.
+fn said_of_text(alloc: Global, setup: &[u8]) -> Result<Vec<u8>, Fail> {
+    let entries = parse_setup(alloc, setup)?;
+    said_of(alloc, &entries)
+}
+
 #[test]
 fn files_of_other_names_stay_as_they_are(rt: HostRuntime) -> Result<(), Fail> {
-    let alloc = rt.alloc();
     let setup = b"TABLE staff staff.dbf data/Staff.DBT
 TABLE STOCK STOCK.DBF STOCK.DBT
 TABLE last ../LAST.DBF
@@ -31,14 +36,13 @@ INDEX STOCK parts PARTS.NDX.old
 STATION s.prg
 "
         .as_slice();
-    let entries = parse_setup(alloc, setup)?;
     let expected = b"station_server: staff.dbf stays as it is: the new table is STAFF.DBF
 station_server: data/Staff.DBT stays as it is: the new memo file is STAFF.DBT
 station_server: /data/NAMES.ndx stays as it is: the new index is NAMES.NDX
 station_server: PARTS.NDX.old stays as it is: the new index is PARTS.NDX
 "
         .as_slice();
-    let said = said_of(alloc, &entries)?;
+    let said = said_of_text(rt.alloc(), setup)?;
     assert!(rt; said.as_slice() == expected);
     Ok(())
 }
