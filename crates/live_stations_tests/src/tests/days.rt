@@ -1,9 +1,10 @@
 //! Days of two clerks whose answers are all printed. The answers are those of dBASE's rules on areas and locks.
 
 use super::clerks::{ALL, Clerk, Then, Turn};
-use super::living::{Left, live};
+use super::living::{Left, LeftDay, live};
 use live_day::TypingFault;
 use live_stations::LinesEnd;
+use std::alloc::Global;
 use std::fs::File;
 use std::rt::{Files, Runtime};
 use std::sync::Wait;
@@ -240,16 +241,26 @@ fn is_left(left: Option<&Left>, row: &Row) -> bool {
     }
 }
 
+// Whether a day is told as one of so many commands.
+fn is_told(alloc: Global, day: &LeftDay, count: u64) -> Result<bool, Fail> {
+    let said = format!(in alloc; "station_prompt: {count} commands\n")?;
+    Ok(day.is_told(0, said.as_str(), ""))
+}
+
+// Whether a day of two clerks went as their rows say.
+fn went_so(alloc: Global, day: &LeftDay, (rows, count): &Case) -> Result<bool, Fail> {
+    let are_left = is_left(day.station(1), &rows[0]) && is_left(day.station(2), &rows[1]);
+    Ok(are_left && is_told(alloc, day, *count)? && day.all_heard && day.opens == 4)
+}
+
 // Whether a day of two clerks goes as their rows say.
 fn goes_so<R: Runtime + Files<File = File> + AllocGlobal + Threads + Wait + Sync>(
     rt: &R,
-    (rows, count): &Case,
+    case: &Case,
 ) -> Result<bool, Fail> {
+    let (rows, _) = case;
     let day = live(rt, "days", &[clerk_of(&rows[0]), clerk_of(&rows[1])])?;
-    let are_left = is_left(day.station(1), &rows[0]) && is_left(day.station(2), &rows[1]);
-    let said = format!(in rt.alloc(); "station_prompt: {count} commands\n")?;
-    let is_told = day.is_told(0, said.as_str(), "");
-    Ok(are_left && is_told && day.all_heard && day.opens == 4)
+    went_so(rt.alloc(), &day, case)
 }
 
 #[test]

@@ -139,6 +139,15 @@ fn is_shown(day: &LeftDay, end: End) -> bool {
     }
 }
 
+// How a day ended. An error where something else was shown than belongs to that.
+fn shown_end(day: &LeftDay) -> Result<End, Fail> {
+    let end = end_of(day);
+    if !is_shown(day, end) {
+        return Err("other answers".into());
+    }
+    Ok(end)
+}
+
 // How a day ends whose disk does so many calls.
 fn ends_on<R: Runtime + Files<File = File> + AllocGlobal + Threads + Wait + Sync>(
     rt: &R,
@@ -146,11 +155,7 @@ fn ends_on<R: Runtime + Files<File = File> + AllocGlobal + Threads + Wait + Sync
 ) -> Result<End, Fail> {
     let source = source(rt.alloc(), SETUP, u64::MAX)?;
     let day = live_at(rt, &FailingPlaces { calls }, source, "no_folder", &CLERKS)?;
-    let end = end_of(&day);
-    if !is_shown(&day, end) {
-        return Err("other answers".into());
-    }
-    Ok(end)
+    shown_end(&day)
 }
 
 // How days end whose disks do ever more calls.
@@ -164,11 +169,17 @@ fn ends_of<R: Runtime + Files<File = File> + AllocGlobal + Threads + Wait + Sync
     Ok(ends)
 }
 
+// Whether days ended in each way.
+fn are_all_ends(ends: &[End]) -> bool {
+    ends.contains(&End::Unbegun)
+        && ends.contains(&End::Log)
+        && ends.contains(&End::Unclosed)
+        && ends.contains(&End::Closed)
+}
+
 #[test]
 fn a_disk_that_fails_ends_the_day_and_its_threads(rt: HostRuntime) -> Result<(), Fail> {
     let ends = ends_of(&rt)?;
-    for end in [End::Unbegun, End::Log, End::Unclosed, End::Closed] {
-        assert!(rt; ends.contains(&end));
-    }
+    assert!(rt; are_all_ends(&ends));
     Ok(())
 }

@@ -38,20 +38,6 @@ fn is_other_left(day: &LeftDay) -> bool {
     }
 }
 
-#[test]
-fn a_keyboard_that_cannot_be_opened_ends_its_station(rt: HostRuntime) -> Result<(), Fail> {
-    let unopened = Clerk {
-        turns: &[],
-        then: Then::Unopened,
-        waits: None,
-        room: Some(ALL),
-    };
-    let day = live(&rt, "unopened", &[unopened, OTHER])?;
-    assert!(rt; is_other_left(&day) && day.count() == Some(3) && day.all_heard);
-    assert!(rt; is_unopened(day.station(1)));
-    Ok(())
-}
-
 // Whether nothing was typed at a station, since its keyboard was not opened.
 fn is_unopened(left: Option<&Left>) -> bool {
     match left {
@@ -65,6 +51,24 @@ fn is_unopened(left: Option<&Left>) -> bool {
         ) => shown.is_empty() && file.is_empty(),
         _ => false,
     }
+}
+
+// Whether a day has the commands of the other clerk alone, since the keyboard of the first was not opened.
+fn ends_unopened(day: &LeftDay) -> bool {
+    is_other_left(day) && day.count() == Some(3) && day.all_heard && is_unopened(day.station(1))
+}
+
+#[test]
+fn a_keyboard_that_cannot_be_opened_ends_its_station(rt: HostRuntime) -> Result<(), Fail> {
+    let unopened = Clerk {
+        turns: &[],
+        then: Then::Unopened,
+        waits: None,
+        room: Some(ALL),
+    };
+    let day = live(&rt, "unopened", &[unopened, OTHER])?;
+    assert!(rt; ends_unopened(&day));
+    Ok(())
 }
 
 // Screens: how many bytes they take, or that they can't be opened. In whole answers, in parts of them, and none.
@@ -108,6 +112,14 @@ fn is_cut_off(left: Option<&Left>, room: Option<usize>, answers: u64) -> bool {
     }
 }
 
+// Whether a day has the commands of the other clerk, and those of the first up to where a screen of this room takes no more.
+fn is_unprinted(day: &LeftDay, room: Option<usize>) -> bool {
+    match day.count().unwrap_or(0).checked_sub(3) {
+        Some(answers) => is_other_left(day) && is_cut_off(day.station(1), room, answers),
+        None => false,
+    }
+}
+
 // Whether a clerk whose screen has this room is heard no more once it takes nothing, while the other is.
 fn ends_unprinted<R: Runtime + Files<File = File> + AllocGlobal + Threads + Wait + Sync>(
     rt: &R,
@@ -131,10 +143,7 @@ fn ends_unprinted<R: Runtime + Files<File = File> + AllocGlobal + Threads + Wait
         room,
     };
     let day = live(rt, "unprinted", &[typing, OTHER])?;
-    let Some(answers) = day.count().unwrap_or(0).checked_sub(3) else {
-        return Ok(false);
-    };
-    Ok(is_other_left(&day) && is_cut_off(day.station(1), room, answers))
+    Ok(is_unprinted(&day, room))
 }
 
 #[test]

@@ -124,35 +124,72 @@ fn read_file<R: Runtime + Files<File = File> + AllocGlobal>(
     }
 }
 
-// What the stations of a day leave, with the answer files of its folder.
+// The answer file of a station of a day in a folder, where it is there.
+fn answer_file<R: Runtime + Files<File = File> + AllocGlobal>(
+    rt: &R,
+    folder: &str,
+    number: u32,
+) -> Result<Option<Vec<u8>>, Fail> {
+    let path = format!(in rt.alloc(); "{folder}/STATION{number}.TXT")?;
+    read_file(rt, path.as_str())
+}
+
+// What a station leaves that has this answer file. What was printed there is taken from it.
+fn take_left<'a, R: Wait, K: Drop>(
+    left: &mut StationLeft<K, Sheet<'a, R>>,
+    file: Option<Vec<u8>>,
+) -> Left {
+    let shown = match left.screen.take() {
+        Some(Sheet { text, .. }) => Some(text),
+        None => None,
+    };
+    Left {
+        shown,
+        end: left.end,
+        all_printed: left.all_printed,
+        file,
+    }
+}
+
+// What the stations of a day leave, with the answer files of its folder. What was printed is taken from them.
 fn left_in<'a, R: Runtime + Files<File = File> + AllocGlobal + Wait, K: Drop>(
     rt: &R,
     folder: &str,
-    stations: Vec<StationLeft<K, Sheet<'a, R>>>,
+    stations: &mut [StationLeft<K, Sheet<'a, R>>],
 ) -> Result<Vec<Left>, Fail> {
-    let alloc = rt.alloc();
-    let mut found = Vec::new(alloc);
-    for (number, left) in (1u32..).zip(stations) {
-        let path = format!(in alloc; "{folder}/STATION{number}.TXT")?;
-        let StationLeft {
-            end,
-            screen,
-            all_printed,
-            ..
-        } = left;
-        let shown = match screen {
-            Some(Sheet { text, .. }) => Some(text),
-            None => None,
-        };
-        let file = read_file(rt, path.as_str())?;
-        found.push(Left {
-            shown,
-            end,
-            all_printed,
-            file,
-        })?;
+    let mut found = Vec::new(rt.alloc());
+    for (number, left) in (1u32..).zip(stations.iter_mut()) {
+        let file = answer_file(rt, folder, number)?;
+        found.push(take_left(left, file))?;
     }
     Ok(found)
+}
+
+// What a day leaves in a folder, for whose stations so many keyboards and screens were to be opened.
+fn left_day<'a, R: Runtime + Files<File = File> + AllocGlobal + Wait, K: Drop>(
+    rt: &R,
+    folder: &str,
+    mut day: StationsDay<K, Sheet<'a, R>, Vec<u8>, Vec<u8>>,
+    opens: u64,
+) -> Result<LeftDay, Fail> {
+    let stations = left_in(rt, folder, &mut day.stations)?;
+    let StationsDay {
+        ended,
+        told,
+        out,
+        err,
+        all_heard,
+        ..
+    } = day;
+    Ok(LeftDay {
+        ended,
+        status: told.status,
+        out,
+        err,
+        all_heard,
+        stations,
+        opens,
+    })
 }
 
 /// A day of clerks in a folder of these places.
@@ -171,26 +208,11 @@ pub(super) fn live_at<
         err: Vec::new(alloc),
         words: &words_of(folder),
     };
-    let Ok(day) = live_stations(rt, alloc, &terminals, clerks.len(), asked) else {
-        return Err("no threads".into());
-    };
-    let StationsDay {
-        ended,
-        told,
-        out,
-        err,
-        all_heard,
-        stations,
-    } = day;
-    Ok(LeftDay {
-        ended,
-        status: told.status,
-        out,
-        err,
-        all_heard,
-        stations: left_in(rt, folder, stations)?,
-        opens: terminals.opens(),
-    })
+    let lived = live_stations(rt, alloc, &terminals, clerks.len(), asked);
+    match lived {
+        Ok(day) => left_day(rt, folder, day, terminals.opens()),
+        Err(_) => Err("no threads".into()),
+    }
 }
 
 /// A day of clerks in a new folder of the system, on the setup.

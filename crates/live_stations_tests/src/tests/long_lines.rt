@@ -23,11 +23,16 @@ fn push_line(text: &mut Vec<u8>, command: &[u8], bytes: usize) -> Result<(), All
 
 // A line with as many bytes as one may have, one with a byte more, one with very many, and a short one.
 fn long_text(alloc: Global) -> Result<Vec<u8>, AllocError> {
+    let lines: [(&[u8], usize); 4] = [
+        (b"USE T", MAX_LINE_BYTES),
+        (b"GO 2", MAX_LINE_BYTES.saturating_add(1)),
+        (b"STATION 2", MAX_LINE_BYTES.saturating_mul(3)),
+        (b"? RECNO()", 0),
+    ];
     let mut text = Vec::new(alloc);
-    push_line(&mut text, b"USE T", MAX_LINE_BYTES)?;
-    push_line(&mut text, b"GO 2", MAX_LINE_BYTES.saturating_add(1))?;
-    push_line(&mut text, b"STATION 2", MAX_LINE_BYTES.saturating_mul(3))?;
-    push_line(&mut text, b"? RECNO()", 0)?;
+    for (command, bytes) in lines {
+        push_line(&mut text, command, bytes)?;
+    }
     Ok(text)
 }
 
@@ -66,10 +71,22 @@ fn live_of<R: Runtime + Files<File = File> + AllocGlobal + Threads + Wait + Sync
     live(rt, "long_lines", &[clerk, clerk])
 }
 
+// A day of two clerks who type such lines.
+fn long_day<R: Runtime + Files<File = File> + AllocGlobal + Threads + Wait + Sync>(
+    rt: &R,
+) -> Result<LeftDay, Fail> {
+    let text = long_text(rt.alloc())?;
+    live_of(rt, text.as_slice())
+}
+
+// Whether both stations have the answers, and all lines were read.
+fn are_answered(day: &LeftDay) -> bool {
+    is_answered(day.station(1)) && is_answered(day.station(2)) && day.all_heard
+}
+
 #[test]
 fn a_line_that_is_too_long_cannot_be_read(rt: HostRuntime) -> Result<(), Fail> {
-    let text = long_text(rt.alloc())?;
-    let day = live_of(&rt, text.as_slice())?;
-    assert!(rt; is_answered(day.station(1)) && is_answered(day.station(2)) && day.all_heard);
+    let day = long_day(&rt)?;
+    assert!(rt; are_answered(&day));
     Ok(())
 }

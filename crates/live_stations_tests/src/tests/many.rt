@@ -91,11 +91,50 @@ fn is_answered(
 }
 
 // Whether both stations were.
-fn are_answered(alloc: Global, day: &LeftDay, times: [u64; 2]) -> Result<bool, AllocError> {
+fn are_answered(alloc: Global, day: &LeftDay, times: [u64; 2]) -> Result<bool, Fail> {
     let first = is_answered(alloc, day.station(1), ANSWERS[0], times[0])?;
     let second = is_answered(alloc, day.station(2), ANSWERS[1], times[1])?;
     let count = answer_count(times[0]).saturating_add(answer_count(times[1]));
     Ok(first && second && day.count() == Some(count) && day.all_heard)
+}
+
+// A day of two clerks who type this, of whom the first reads once this was shown.
+fn live_of<R: Runtime + Files<File = File> + AllocGlobal + Threads + Wait + Sync>(
+    rt: &R,
+    first: &[u8],
+    second: &[Turn<'_>],
+    waits: Option<(usize, u64)>,
+) -> Result<LeftDay, Fail> {
+    let clerks = [
+        Clerk {
+            turns: &[Turn {
+                station: 1,
+                answers: 0,
+                text: first,
+            }],
+            then: Then::Ends,
+            waits,
+            room: Some(ALL),
+        },
+        Clerk {
+            turns: second,
+            then: Then::Ends,
+            waits: None,
+            room: Some(ALL),
+        },
+    ];
+    live(rt, "many", &clerks)
+}
+
+// The same of clerks who type their lines so often.
+fn live_many<R: Runtime + Files<File = File> + AllocGlobal + Threads + Wait + Sync>(
+    rt: &R,
+    times: [u64; 2],
+    waits: Option<(usize, u64)>,
+) -> Result<LeftDay, Fail> {
+    let first = repeated(rt.alloc(), b"USE T\n", LINES[0], times[0])?;
+    let second = turns_of(rt.alloc(), 2, LINES[1], times[1])?;
+    live_of(rt, first.as_slice(), second.as_slice(), waits)
 }
 
 // Whether two clerks are answered all their lines, of whom the first reads once this was shown.
@@ -104,29 +143,8 @@ fn ends_whole<R: Runtime + Files<File = File> + AllocGlobal + Threads + Wait + S
     times: [u64; 2],
     waits: Option<(usize, u64)>,
 ) -> Result<bool, Fail> {
-    let alloc = rt.alloc();
-    let first = repeated(alloc, b"USE T\n", LINES[0], times[0])?;
-    let second = turns_of(alloc, 2, LINES[1], times[1])?;
-    let clerks = [
-        Clerk {
-            turns: &[Turn {
-                station: 1,
-                answers: 0,
-                text: first.as_slice(),
-            }],
-            then: Then::Ends,
-            waits,
-            room: Some(ALL),
-        },
-        Clerk {
-            turns: second.as_slice(),
-            then: Then::Ends,
-            waits: None,
-            room: Some(ALL),
-        },
-    ];
-    let day = live(rt, "many", &clerks)?;
-    Ok(are_answered(alloc, &day, times)?)
+    let day = live_many(rt, times, waits)?;
+    are_answered(rt.alloc(), &day, times)
 }
 
 #[test]

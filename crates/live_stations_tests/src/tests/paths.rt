@@ -3,12 +3,11 @@
 use super::living::{SETUP, make_folder, source, words_of};
 use byte_io::Bytes;
 use live_program::HostPlaces;
-use live_stations::{
-    Asked, LinesEnd, StationLeft, StationPaths, StationsDay, Terminals, live_stations,
-};
+use live_stations::{Asked, LinesEnd, StationLeft, StationPaths, Terminals, live_stations};
 use std::alloc::{AllocError, Global};
 use std::fs;
 use std::fs::File;
+use std::process::Abort;
 use std::rt::{Files, Runtime};
 use std::sync::Wait;
 use std::test::Fail;
@@ -43,37 +42,55 @@ const ROWS: [Row; 5] = [
     (None, None, None, LinesEnd::Unopened),
 ];
 
-// Writes a file of a folder, where there is a text for it.
-fn put<R: Runtime + Files<File = File> + AllocGlobal>(
+// Writes a file of the system, where there is a text for it.
+fn put<R: Runtime + Files<File = File>>(
     rt: &R,
-    name: &str,
+    path: &str,
     text: Option<&str>,
 ) -> Result<(), Fail> {
-    let alloc = rt.alloc();
-    let path = format!(in alloc; "paths/{name}")?;
     if let Some(text) = text {
-        fs::write(rt, path.as_str(), text.as_bytes())?;
+        fs::write(rt, path, text.as_bytes())?;
     }
     Ok(())
 }
 
-// Whether a file of a folder has this text, or is not there.
+// Whether a file of the system has this text, or is not there.
 fn has<R: Runtime + Files<File = File> + AllocGlobal>(
     rt: &R,
-    name: &str,
+    path: &str,
     text: Option<&str>,
 ) -> Result<bool, Fail> {
-    let alloc = rt.alloc();
-    let path = format!(in alloc; "paths/{name}")?;
-    let is_there = fs::exists(rt, path.as_str())?;
+    let is_there = fs::exists(rt, path)?;
     match text {
         Some(text) if is_there => {
-            let found = fs::read(rt, path.as_str())?;
+            let found = fs::read(rt, path)?;
             Ok(found.as_slice() == text.as_bytes())
         }
         Some(_) => Ok(false),
         None => Ok(!is_there),
     }
+}
+
+// Writes what stands at the paths of two stations before a day.
+fn put_all<R: Runtime + Files<File = File>>(rt: &R, one: &Row, two: &Row) -> Result<(), Fail> {
+    put(rt, "paths/one", one.0)?;
+    put(rt, "paths/one.OUT", one.1)?;
+    put(rt, "paths/two", two.0)?;
+    put(rt, "paths/two.OUT", two.1)
+}
+
+// Whether that stands there which does after the day.
+fn has_all<R: Runtime + Files<File = File> + AllocGlobal>(
+    rt: &R,
+    one: &Row,
+    two: &Row,
+) -> Result<bool, Fail> {
+    Ok(
+        has(rt, "paths/one", one.0)?
+            && has(rt, "paths/two", two.0)?
+            && has(rt, "paths/one.OUT", one.2)?
+            && has(rt, "paths/two.OUT", two.2)?,
+    )
 }
 
 // The paths of two stations.
@@ -83,39 +100,35 @@ fn paths_of(alloc: Global) -> Result<Vec<Bytes>, AllocError> {
     Ok(paths)
 }
 
+// Whether each of two stations ends so, and all its answers were printed.
+fn are_ended<K: Drop, W: Drop>(stations: &[StationLeft<K, W>], rows: [&Row; 2]) -> bool {
+    let mut are_so = stations.len() == 2;
+    for (left, row) in stations.iter().zip(rows) {
+        are_so = are_so && left.end == row.3 && left.all_printed;
+    }
+    are_so
+}
+
 // Whether a day of two stations is closed, and each ends so.
 fn ends_so<
     R: Runtime + Files<File = File> + AllocGlobal + Threads + Wait + Sync,
     T: Terminals + Sync,
 >(rt: &R, stations: &T, rows: [&Row; 2]) -> Result<bool, Fail> {
     let alloc = rt.alloc();
+    let source = source(alloc, SETUP, u64::MAX)?;
     let out: Vec<u8> = Vec::new(alloc);
     let err: Vec<u8> = Vec::new(alloc);
     let asked = Asked {
         places: &HostPlaces::new(rt),
-        source: source(alloc, SETUP, u64::MAX)?,
+        source,
         out,
         err,
         words: &words_of("paths"),
     };
-    let Ok(day) = live_stations(rt, alloc, stations, rows.len(), asked) else {
-        return Err("no threads".into());
-    };
-    let StationsDay {
-        ended,
-        stations,
-        ..
-    } = day;
-    let mut are_so = ended.is_ok() && stations.len() == 2;
-    for (left, row) in stations.into_iter().zip(rows) {
-        let StationLeft {
-            end,
-            all_printed,
-            ..
-        } = left;
-        are_so = are_so && end == row.3 && all_printed;
+    match live_stations(rt, alloc, stations, rows.len(), asked) {
+        Ok(day) => Ok(day.ended.is_ok() && are_ended(day.stations.as_slice(), rows)),
+        Err(_) => Err("no threads".into()),
     }
-    Ok(are_so)
 }
 
 // Whether a day of two stations leaves this at their paths.
@@ -124,15 +137,24 @@ fn leaves<
     T: Terminals + Sync,
 >(rt: &R, stations: &T, one: &Row, two: &Row) -> Result<bool, Fail> {
     make_folder(rt, "paths")?;
-    put(rt, "one", one.0)?;
-    put(rt, "one.OUT", one.1)?;
-    put(rt, "two", two.0)?;
-    put(rt, "two.OUT", two.1)?;
+    put_all(rt, one, two)?;
     let are_so = ends_so(rt, stations, [one, two])?;
-    let are_there = has(rt, "one", one.0)? && has(rt, "two", two.0)?;
-    let are_left = has(rt, "one.OUT", one.2)? && has(rt, "two.OUT", two.2)?;
+    let are_left = has_all(rt, one, two)?;
     fs::remove_dir_all(rt, "paths")?;
-    Ok(are_so && are_there && are_left)
+    Ok(are_so && are_left)
+}
+
+// Asserts that days of two stations leave this at their paths, of each two rows.
+fn assert_all_leave<
+    R: Runtime + Files<File = File> + AllocGlobal + Threads + Wait + Sync + Abort,
+    T: Terminals + Sync,
+>(rt: &R, stations: &T) -> Result<(), Fail> {
+    for one in &ROWS {
+        for two in &ROWS {
+            assert!(rt; leaves(rt, stations, one, two)?);
+        }
+    }
+    Ok(())
 }
 
 #[test]
@@ -140,10 +162,5 @@ fn a_station_types_at_its_path_and_is_answered_beside_it(rt: HostRuntime) -> Res
     // Only here it is known that the system's runtime may be used by several threads.
     let stations = StationPaths::new(&rt, paths_of(rt.alloc())?);
     assert!(rt; stations.len() == 2);
-    for one in &ROWS {
-        for two in &ROWS {
-            assert!(rt; leaves(&rt, &stations, one, two)?);
-        }
-    }
-    Ok(())
+    assert_all_leave(&rt, &stations)
 }

@@ -113,14 +113,19 @@ fn are_paths(found: &[Bytes], paths: &[&str]) -> bool {
     found.len() == paths.len()
 }
 
-// Whether the words and the setup have these live stations.
-fn has_paths(alloc: Global, (words, setup, paths): &Case) -> Result<bool, Fail> {
-    let found = live_setup(alloc, source(alloc, setup, u64::MAX)?, words)?;
-    Ok(match (found, paths) {
+// Whether these are the live stations, or there are none.
+fn are_live(found: &LiveSetup<MemorySource>, paths: &Option<&[&str]>) -> bool {
+    match (found, paths) {
         (LiveSetup::NotLive { .. }, None) => true,
         (LiveSetup::Live { paths: found, .. }, Some(paths)) => are_paths(found.as_slice(), paths),
         _ => false,
-    })
+    }
+}
+
+// Whether the words and the setup have these live stations.
+fn has_paths(alloc: Global, (words, setup, paths): &Case) -> Result<bool, Fail> {
+    let found = live_setup(alloc, source(alloc, setup, u64::MAX)?, words)?;
+    Ok(are_live(&found, paths))
 }
 
 #[test]
@@ -153,20 +158,28 @@ fn no_station_is_live_where_the_setup_cannot_be_read(rt: HostRuntime) -> Result<
     Ok(())
 }
 
-// Whether a setup that was read by the one load of its source is there again and again, and no other file is.
-fn is_kept(alloc: Global) -> Result<bool, Fail> {
-    let mut source = live_after(alloc, 1)?;
+// Whether the setup is loaded.
+fn loads_setup<S: Source>(alloc: Global, source: &mut S) -> bool {
+    match source.load(alloc, b"A.SET") {
+        Ok(setup) => setup.as_slice() == SETUP,
+        Err(_) => false,
+    }
+}
+
+// Whether the setup is there again and again, and no other file is.
+fn keeps_setup<S: Source>(alloc: Global, source: &mut S) -> bool {
     for _ in 0..3 {
-        match source.load(alloc, b"A.SET") {
-            Ok(setup) => {
-                if setup.as_slice() != SETUP {
-                    return Ok(false);
-                }
-            }
-            Err(_) => return Ok(false),
+        if !loads_setup(alloc, source) {
+            return false;
         }
     }
-    Ok(matches!(source.load(alloc, b"T.DBF"), Err(LoadFault::CannotRead)))
+    matches!(source.load(alloc, b"T.DBF"), Err(LoadFault::CannotRead))
+}
+
+// The same of a setup that was read by the one load of its source.
+fn is_kept(alloc: Global) -> Result<bool, Fail> {
+    let mut source = live_after(alloc, 1)?;
+    Ok(keeps_setup(alloc, &mut source))
 }
 
 #[test]
@@ -196,16 +209,26 @@ fn live_in<R: Runtime + Files<File = File> + AllocGlobal + Threads + Wait + Sync
     live_at(rt, &HostPlaces::new(rt), source, folder, &[TYPING, TYPING])
 }
 
-// How many commands a day has whose setup was read before it, and of whose source so many loads are done in all.
+// How many commands a day in a folder has whose setup was read before it, and of whose source so many loads are done in all.
+fn count_in<R: Runtime + Files<File = File> + AllocGlobal + Threads + Wait + Sync>(
+    rt: &R,
+    folder: &str,
+    loads: u64,
+) -> Result<Option<u64>, Fail> {
+    let source = live_after(rt.alloc(), loads)?;
+    let day = live_in(rt, source, folder)?;
+    Ok(day.count())
+}
+
+// The same in a new folder.
 fn count_after<R: Runtime + Files<File = File> + AllocGlobal + Threads + Wait + Sync>(
     rt: &R,
     loads: u64,
 ) -> Result<Option<u64>, Fail> {
     make_folder(rt, "live_setup")?;
-    let source = live_after(rt.alloc(), loads)?;
-    let day = live_in(rt, source, "live_setup")?;
+    let count = count_in(rt, "live_setup", loads)?;
     fs::remove_dir_all(rt, "live_setup")?;
-    Ok(day.count())
+    Ok(count)
 }
 
 #[test]
@@ -252,16 +275,26 @@ fn is_untouched(day: &LeftDay) -> bool {
     day.opens == 0 && day.stations.len() == 2 && !day.all_heard
 }
 
-// Whether a setup is refused so.
-fn is_refused<R: Runtime + Files<File = File> + AllocGlobal + Threads + Wait + Sync>(
+// Whether a day in a folder, on this setup, is refused so before a station is opened.
+fn is_refused_in<R: Runtime + Files<File = File> + AllocGlobal + Threads + Wait + Sync>(
     rt: &R,
+    folder: &str,
     (setup, status, said): (&[u8], u8, &str),
 ) -> Result<bool, Fail> {
-    let alloc = rt.alloc();
-    make_folder(rt, "refused_setup")?;
-    let day = live_in(rt, source(alloc, setup, u64::MAX)?, "refused_setup")?;
-    fs::remove_dir_all(rt, "refused_setup")?;
+    let source = source(rt.alloc(), setup, u64::MAX)?;
+    let day = live_in(rt, source, folder)?;
     Ok(is_untouched(&day) && day.is_told(status, "", said))
+}
+
+// The same in a new folder.
+fn is_refused<R: Runtime + Files<File = File> + AllocGlobal + Threads + Wait + Sync>(
+    rt: &R,
+    case: (&[u8], u8, &str),
+) -> Result<bool, Fail> {
+    make_folder(rt, "refused_setup")?;
+    let is_so = is_refused_in(rt, "refused_setup", case)?;
+    fs::remove_dir_all(rt, "refused_setup")?;
+    Ok(is_so)
 }
 
 #[test]
@@ -272,20 +305,11 @@ fn a_setup_that_is_refused_is_told_before_a_station_is_opened(rt: HostRuntime) -
     Ok(())
 }
 
-// Whether a folder that is not there is told before a station is opened.
-fn is_folder_told<R: Runtime + Files<File = File> + AllocGlobal + Threads + Wait + Sync>(
-    rt: &R,
-) -> Result<bool, Fail> {
-    let alloc = rt.alloc();
-    let day = live_in(rt, source(alloc, SETUP, u64::MAX)?, "no_stations")?;
-    let said = "station_prompt: cannot open the folder\n";
-    Ok(is_untouched(&day) && day.is_told(4, "", said))
-}
-
 #[test]
 fn a_folder_that_is_not_there_is_told_before_a_station_is_opened(
     rt: HostRuntime,
 ) -> Result<(), Fail> {
-    assert!(rt; is_folder_told(&rt)?);
+    let case = (SETUP, 4, "station_prompt: cannot open the folder\n");
+    assert!(rt; is_refused_in(&rt, "no_stations", case)?);
     Ok(())
 }

@@ -78,12 +78,22 @@ fn text_of(alloc: Global, cases: &[Case]) -> Result<Vec<u8>, AllocError> {
     Ok(text)
 }
 
+// Whether this is said of stations.
+fn is_said(
+    alloc: Global,
+    stations: &[StationLeft<Vec<u8>, Vec<u8>>],
+    said: &[u8],
+) -> Result<bool, Fail> {
+    let mut out: Vec<u8> = Vec::new(alloc);
+    tell_stations(&mut out, stations)?;
+    Ok(out.as_slice() == said)
+}
+
 // Whether of the first stations this is said.
 fn is_told(alloc: Global, cases: &[Case]) -> Result<bool, Fail> {
+    let said = text_of(alloc, cases)?;
     let stations = stations_of(alloc, cases)?;
-    let mut out: Vec<u8> = Vec::new(alloc);
-    tell_stations(&mut out, stations.as_slice())?;
-    Ok(out.as_slice() == text_of(alloc, cases)?.as_slice())
+    is_said(alloc, stations.as_slice(), said.as_slice())
 }
 
 #[test]
