@@ -50,60 +50,80 @@ fn memo(alloc: Global, text: &[u8]) -> Result<Vec<u8>, AllocError> {
     Ok(bytes)
 }
 
-// The table of ADA and BOB, that of BOB and ADA and its index, under their paths, files that are no table and no index, and the table
-// of one memo with its file beside it and without one.
+// The table of ADA and BOB and the table of one memo under their paths, files that are no table and no index, scripts, answers, texts
+// of CSV, setups and lists of fields.
+const WRITTEN: [(&[u8], &[u8]); 22] = [
+    (b"T.DBF", &TABLE),
+    (b"BAD.DBF", b"\x03"),
+    (b"BAD.NDX", b""),
+    (b"M/N.DBF", &NOTE),
+    (b"n.dbf", &NOTE),
+    (b"N.DBF", &NOTE),
+    (b"N.Dbf", &NOTE),
+    (b"A.PRG", b"USE S\n"),
+    (b"B.PRG", b"USE S\nSET TALK OFF\n* NAMES\nCLEAR\n"),
+    (b"A.TXT", b"OK\n"),
+    (
+        b"B.TXT",
+        b"OK\nREFUSED 19 BadCommand\nREFUSED 19 BadCommand\n",
+    ),
+    (b"C.DBF", &WITH_CYD),
+    (b"D.CSV", b"NAME\r\nCYD\r\n"),
+    (b"W.CSV", b"NAME\r\nCYD\r\nCYDONIA THE GREAT\r\n"),
+    (b"TOWN.CSV", b"NAME,TOWN\r\nCYD,ROME\r\n"),
+    (b"TALK.SET", b"TABLE S S.DBF\nSTATION B.PRG\n"),
+    (
+        b"GOOD.SET",
+        b"TABLE S S.DBF\nINDEX S BYNAME S.NDX\nSTATION A.PRG\n",
+    ),
+    (
+        b"STALE.SET",
+        b"TABLE T T.DBF\nINDEX T BYNAME S.NDX\nSTATION A.PRG\n",
+    ),
+    (
+        b"TWICE.SET",
+        b"TABLE S S.DBF\nTABLE S T.DBF\nSTATION A.PRG\n",
+    ),
+    (b"BAD.SET", b"TABLE S S.DBF\nTABEL T T.DBF\n"),
+    (b"FIELDS.TXT", b"NAME Character 10\nNOTE Memo 10\n"),
+    (b"BAD.TXT", b"NAME Character 10\nNAME Memo 10\n"),
+];
+
+// Adds a file under a path.
+fn add(
+    alloc: Global,
+    files: &mut Vec<NamedFile>,
+    path: &[u8],
+    bytes: &[u8],
+) -> Result<(), AllocError> {
+    files.push(NamedFile {
+        name: Bytes::from_slice(alloc, path)?,
+        bytes: Bytes::from_slice(alloc, bytes)?,
+    })?;
+    Ok(())
+}
+
+// Adds the table of BOB and ADA and its index, and the files of memos that lie beside two tables.
+fn add_made(alloc: Global, files: &mut Vec<NamedFile>) -> Result<(), AllocError> {
+    add(alloc, files, b"S.DBF", bob_and_ada(alloc)?.as_slice())?;
+    add(alloc, files, b"S.NDX", by_name(alloc)?.as_slice())?;
+    add(alloc, files, b"M/N.DBT", memo(alloc, b"UPPER")?.as_slice())?;
+    add(alloc, files, b"n.dbt", memo(alloc, b"LOWER")?.as_slice())?;
+    Ok(())
+}
+
+// Adds all files.
+fn add_all(alloc: Global, files: &mut Vec<NamedFile>) -> Result<(), AllocError> {
+    for (path, bytes) in WRITTEN {
+        add(alloc, files, path, bytes)?;
+    }
+    add_made(alloc, files)
+}
+
+// All files.
 fn files(alloc: Global) -> Result<MemorySource, Fail> {
     let mut files = Vec::new(alloc);
-    let swapped = bob_and_ada(alloc)?;
-    let index = by_name(alloc)?;
-    let upper = memo(alloc, b"UPPER")?;
-    let lower = memo(alloc, b"LOWER")?;
-    let contents: [(&[u8], &[u8]); 26] = [
-        (b"T.DBF", &TABLE),
-        (b"S.DBF", swapped.as_slice()),
-        (b"S.NDX", index.as_slice()),
-        (b"BAD.DBF", b"\x03"),
-        (b"BAD.NDX", b""),
-        (b"M/N.DBF", &NOTE),
-        (b"M/N.DBT", upper.as_slice()),
-        (b"n.dbf", &NOTE),
-        (b"n.dbt", lower.as_slice()),
-        (b"N.DBF", &NOTE),
-        (b"N.Dbf", &NOTE),
-        (b"A.PRG", b"USE S\n"),
-        (b"B.PRG", b"USE S\nSET TALK OFF\n* NAMES\nCLEAR\n"),
-        (b"A.TXT", b"OK\n"),
-        (
-            b"B.TXT",
-            b"OK\nREFUSED 19 BadCommand\nREFUSED 19 BadCommand\n",
-        ),
-        (b"C.DBF", &WITH_CYD),
-        (b"D.CSV", b"NAME\r\nCYD\r\n"),
-        (b"W.CSV", b"NAME\r\nCYD\r\nCYDONIA THE GREAT\r\n"),
-        (b"TOWN.CSV", b"NAME,TOWN\r\nCYD,ROME\r\n"),
-        (b"TALK.SET", b"TABLE S S.DBF\nSTATION B.PRG\n"),
-        (
-            b"GOOD.SET",
-            b"TABLE S S.DBF\nINDEX S BYNAME S.NDX\nSTATION A.PRG\n",
-        ),
-        (
-            b"STALE.SET",
-            b"TABLE T T.DBF\nINDEX T BYNAME S.NDX\nSTATION A.PRG\n",
-        ),
-        (
-            b"TWICE.SET",
-            b"TABLE S S.DBF\nTABLE S T.DBF\nSTATION A.PRG\n",
-        ),
-        (b"BAD.SET", b"TABLE S S.DBF\nTABEL T T.DBF\n"),
-        (b"FIELDS.TXT", b"NAME Character 10\nNOTE Memo 10\n"),
-        (b"BAD.TXT", b"NAME Character 10\nNAME Memo 10\n"),
-    ];
-    for (name, bytes) in contents {
-        files.push(NamedFile {
-            name: Bytes::from_slice(alloc, name)?,
-            bytes: Bytes::from_slice(alloc, bytes)?,
-        })?;
-    }
+    add_all(alloc, &mut files)?;
     Ok(MemorySource {
         files,
         loads: 99,
@@ -179,4 +199,40 @@ fn is_answered(
     printed.as_slice() == text.as_bytes()
         && said.as_slice() == line.as_bytes()
         && ended == ExitCode::from(status)
+}
+
+// The first of command lines over these files that is not answered so: the words, the exit status, the text and the line on standard
+// error.
+fn first_wrong(
+    alloc: Global,
+    source: &mut MemorySource,
+    cases: &[(&[&str], u8, &str, &str)],
+) -> Option<usize> {
+    for i in 0..cases.len() {
+        let (words, status, text, line) = cases[i];
+        if !is_answered(alloc, source, words, status, text, line) {
+            return Some(i);
+        }
+    }
+    None
+}
+
+// The same over all files.
+fn first_wrong_of_all(
+    alloc: Global,
+    cases: &[(&[&str], u8, &str, &str)],
+) -> Result<Option<usize>, Fail> {
+    let mut source = files(alloc)?;
+    Ok(first_wrong(alloc, &mut source, cases))
+}
+
+// The same over all files, of which so many loads come to the file.
+fn first_wrong_of_loads(
+    alloc: Global,
+    loads: u64,
+    cases: &[(&[&str], u8, &str, &str)],
+) -> Result<Option<usize>, Fail> {
+    let mut source = files(alloc)?;
+    source.loads = loads;
+    Ok(first_wrong(alloc, &mut source, cases))
 }

@@ -1,6 +1,6 @@
 //! Scripts that are shown with their answers.
 
-use crate::tests::{files, is_answered};
+use crate::tests::first_wrong_of_all;
 use std::process::Abort;
 use std::test::*;
 
@@ -58,9 +58,6 @@ const CASES: [(&[&str], u8, &str, &str); 7] = [
 
 #[test]
 fn scripts_are_shown_with_their_answers(rt: HostRuntime) -> Result<(), Fail> {
-    let mut source = files(rt.alloc())?;
-    for (words, status, text, line) in CASES {
-        assert!(rt; is_answered(rt.alloc(), &mut source, words, status, text, line));
-    }
+    assert_eq!(rt; first_wrong_of_all(rt.alloc(), &CASES)?, None);
     Ok(())
 }

@@ -1,6 +1,6 @@
 //! Setups that are checked.
 
-use crate::tests::{files, is_answered};
+use crate::tests::{first_wrong_of_all, first_wrong_of_loads};
 use std::process::Abort;
 use std::test::*;
 
@@ -79,19 +79,13 @@ good: the server opens all
 
 #[test]
 fn setups_are_checked_file_by_file(rt: HostRuntime) -> Result<(), Fail> {
-    let mut source = files(rt.alloc())?;
-    for (words, status, text, line) in CASES {
-        assert!(rt; is_answered(rt.alloc(), &mut source, words, status, text, line));
-    }
+    assert_eq!(rt; first_wrong_of_all(rt.alloc(), &CASES)?, None);
     Ok(())
 }
 
 // The setup, its table, its index and its script are four files, and the load after the fourth would fail.
 #[test]
 fn each_file_is_loaded_once(rt: HostRuntime) -> Result<(), Fail> {
-    let mut source = files(rt.alloc())?;
-    source.loads = 4;
-    let (words, status, text, line) = CASES[0];
-    assert!(rt; is_answered(rt.alloc(), &mut source, words, status, text, line));
+    assert_eq!(rt; first_wrong_of_loads(rt.alloc(), 4, &CASES[..1])?, None);
     Ok(())
 }

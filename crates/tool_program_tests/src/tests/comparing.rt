@@ -1,6 +1,6 @@
 //! Tables that are compared.
 
-use crate::tests::{files, is_answered};
+use crate::tests::first_wrong_of_all;
 use std::process::Abort;
 use std::test::*;
 
@@ -144,9 +144,6 @@ record 2 removed: NAME BOB
 
 #[test]
 fn tables_are_compared_or_why_not_is_told(rt: HostRuntime) -> Result<(), Fail> {
-    let mut source = files(rt.alloc())?;
-    for (words, status, text, line) in CASES {
-        assert!(rt; is_answered(rt.alloc(), &mut source, words, status, text, line));
-    }
+    assert_eq!(rt; first_wrong_of_all(rt.alloc(), &CASES)?, None);
     Ok(())
 }

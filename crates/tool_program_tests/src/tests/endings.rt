@@ -20,79 +20,92 @@ fn status_of(ended: Result<ToolReport, ToolFault<'_>>) -> u8 {
     }
 }
 
+// Faults, whether the reader at the other end was gone, and the exit status.
+const CASES: [(ShowFault, bool, u8); 20] = [
+    (ShowFault::Load(LoadFault::CannotRead), false, 2),
+    (ShowFault::Load(LoadFault::Unrecovered), false, 2),
+    (ShowFault::Load(LoadFault::NoMemory), false, 3),
+    (ShowFault::Memos(LoadFault::CannotRead), false, 2),
+    (ShowFault::Memos(LoadFault::Unrecovered), false, 2),
+    (ShowFault::Memos(LoadFault::NoMemory), false, 3),
+    (ShowFault::Table(ImageFault::Truncated), false, 2),
+    (ShowFault::Table(ImageFault::NoMemory), false, 3),
+    (
+        ShowFault::Order(OrderFault::Load(LoadFault::CannotRead)),
+        false,
+        2,
+    ),
+    (
+        ShowFault::Order(OrderFault::Load(LoadFault::Unrecovered)),
+        false,
+        2,
+    ),
+    (
+        ShowFault::Order(OrderFault::Load(LoadFault::NoMemory)),
+        false,
+        3,
+    ),
+    (
+        ShowFault::Order(OrderFault::Index(NdxFault::PageTwice)),
+        false,
+        2,
+    ),
+    (
+        ShowFault::Order(OrderFault::Index(NdxFault::NoMemory)),
+        false,
+        3,
+    ),
+    (
+        ShowFault::Order(OrderFault::Expression(ExprFault::NoSuchField)),
+        false,
+        2,
+    ),
+    (
+        ShowFault::Order(OrderFault::Expression(ExprFault::NoMemory)),
+        false,
+        3,
+    ),
+    (ShowFault::Order(OrderFault::Stale), false, 2),
+    (ShowFault::Order(OrderFault::NoMemory), false, 3),
+    (ShowFault::Text(TextFault::NoMemory), false, 3),
+    (ShowFault::Text(TextFault::Sink), false, 4),
+    (ShowFault::Text(TextFault::Sink), true, 0),
+];
+
+// The first fault that has another status.
+fn first_other_status(cases: &[(ShowFault, bool, u8)]) -> Option<usize> {
+    for i in 0..cases.len() {
+        let (fault, is_closed, status) = cases[i];
+        if status_of(not_shown(fault, is_closed, "T.DBF")) != status {
+            return Some(i);
+        }
+    }
+    None
+}
+
 #[test]
 fn faults_have_their_statuses(rt: HostRuntime) -> Result<(), Fail> {
-    let cases = [
-        (ShowFault::Load(LoadFault::CannotRead), false, 2),
-        (ShowFault::Load(LoadFault::Unrecovered), false, 2),
-        (ShowFault::Load(LoadFault::NoMemory), false, 3),
-        (ShowFault::Memos(LoadFault::CannotRead), false, 2),
-        (ShowFault::Memos(LoadFault::Unrecovered), false, 2),
-        (ShowFault::Memos(LoadFault::NoMemory), false, 3),
-        (ShowFault::Table(ImageFault::Truncated), false, 2),
-        (ShowFault::Table(ImageFault::NoMemory), false, 3),
-        (
-            ShowFault::Order(OrderFault::Load(LoadFault::CannotRead)),
-            false,
-            2,
-        ),
-        (
-            ShowFault::Order(OrderFault::Load(LoadFault::Unrecovered)),
-            false,
-            2,
-        ),
-        (
-            ShowFault::Order(OrderFault::Load(LoadFault::NoMemory)),
-            false,
-            3,
-        ),
-        (
-            ShowFault::Order(OrderFault::Index(NdxFault::PageTwice)),
-            false,
-            2,
-        ),
-        (
-            ShowFault::Order(OrderFault::Index(NdxFault::NoMemory)),
-            false,
-            3,
-        ),
-        (
-            ShowFault::Order(OrderFault::Expression(ExprFault::NoSuchField)),
-            false,
-            2,
-        ),
-        (
-            ShowFault::Order(OrderFault::Expression(ExprFault::NoMemory)),
-            false,
-            3,
-        ),
-        (ShowFault::Order(OrderFault::Stale), false, 2),
-        (ShowFault::Order(OrderFault::NoMemory), false, 3),
-        (ShowFault::Text(TextFault::NoMemory), false, 3),
-        (ShowFault::Text(TextFault::Sink), false, 4),
-        (ShowFault::Text(TextFault::Sink), true, 0),
-    ];
-    for (fault, is_closed, status) in cases {
-        assert_eq!(rt; status_of(not_shown(fault, is_closed, "T.DBF")), status);
-    }
+    assert_eq!(rt; first_other_status(&CASES), None);
     Ok(())
+}
+
+// The exit status of a check that ends so.
+fn status_of_check(fault: CheckFault, is_closed: bool) -> u8 {
+    status_of(not_checked(fault, is_closed, "OFFICE.SET"))
 }
 
 #[test]
 fn checks_have_their_statuses(rt: HostRuntime) -> Result<(), Fail> {
-    let cases = [
-        (CheckFault::CannotRead, false, 2),
-        (CheckFault::Unrecovered, false, 2),
-        (CheckFault::BadLine(3, None), false, 2),
-        (CheckFault::NoMemory, false, 3),
-        (CheckFault::Sink, false, 4),
-        (CheckFault::Sink, true, 0),
-    ];
-    for (fault, is_closed, status) in cases {
-        assert_eq!(rt;
-            status_of(not_checked(fault, is_closed, "OFFICE.SET")),
-            status
-        );
-    }
+    assert_eq!(rt;
+        [
+            status_of_check(CheckFault::CannotRead, false),
+            status_of_check(CheckFault::Unrecovered, false),
+            status_of_check(CheckFault::BadLine(3, None), false),
+            status_of_check(CheckFault::NoMemory, false),
+            status_of_check(CheckFault::Sink, false),
+            status_of_check(CheckFault::Sink, true),
+        ],
+        [2, 2, 2, 3, 4, 0]
+    );
     Ok(())
 }

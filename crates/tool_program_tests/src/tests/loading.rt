@@ -1,11 +1,23 @@
 //! Records of a text of CSV that are put after those of a table.
 
 use crate::tests::{files, is_answered};
+use folders::MemorySource;
+use std::alloc::Global;
 use std::process::Abort;
 use std::test::*;
 
 // The text of CSV, the table, the new table, the date, one more word, and the exit status and the line on standard error.
-const CASES: [(&str, &str, &str, &str, &str, u8, &str); 11] = [
+type Case = (
+    &'static str,
+    &'static str,
+    &'static str,
+    &'static str,
+    &'static str,
+    u8,
+    &'static str,
+);
+
+const CASES: [Case; 11] = [
     (
         "D.CSV",
         "T.DBF",
@@ -107,23 +119,42 @@ const CASES: [(&str, &str, &str, &str, &str, u8, &str); 11] = [
     ),
 ];
 
+// Whether the words of a case are answered as it says.
+fn is_right(alloc: Global, source: &mut MemorySource, case: &Case) -> bool {
+    let (csv, table, out, today, more, status, line) = *case;
+    let words = [
+        "table_tool",
+        "load",
+        csv,
+        "--into",
+        table,
+        "--out",
+        out,
+        "--today",
+        today,
+        more,
+    ];
+    is_answered(alloc, source, &words, status, "", line)
+}
+
+// The first case that is not answered so over these files.
+fn first_wrong_load(alloc: Global, source: &mut MemorySource, cases: &[Case]) -> Option<usize> {
+    for i in 0..cases.len() {
+        if !is_right(alloc, source, &cases[i]) {
+            return Some(i);
+        }
+    }
+    None
+}
+
+// The same over all files.
+fn first_wrong_load_of_all(alloc: Global) -> Result<Option<usize>, Fail> {
+    let mut source = files(alloc)?;
+    Ok(first_wrong_load(alloc, &mut source, &CASES))
+}
+
 #[test]
 fn records_are_loaded_or_why_not_is_told(rt: HostRuntime) -> Result<(), Fail> {
-    let mut source = files(rt.alloc())?;
-    for (csv, table, out, today, more, status, line) in CASES {
-        let words = [
-            "table_tool",
-            "load",
-            csv,
-            "--into",
-            table,
-            "--out",
-            out,
-            "--today",
-            today,
-            more,
-        ];
-        assert!(rt; is_answered(rt.alloc(), &mut source, &words, status, "", line));
-    }
+    assert_eq!(rt; first_wrong_load_of_all(rt.alloc())?, None);
     Ok(())
 }

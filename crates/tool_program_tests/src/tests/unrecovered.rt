@@ -1,24 +1,32 @@
 //! Files in folders that are not recovered: what is said of them.
 
-use crate::tests::{answer, files};
-use byte_io::Bytes;
+use crate::tests::{add, answer, files};
 use folders::{MemorySource, NamedFile};
-use std::alloc::Global;
+use std::alloc::{AllocError, Global};
 use std::process::Abort;
 use std::test::*;
 
 // The name of the list of a set of new files.
 const LIST: &str = "~niqarthu.list";
 
+// Adds a list in this folder.
+fn add_list(alloc: Global, files: &mut Vec<NamedFile>, folder: &str) -> Result<(), AllocError> {
+    let list = format!(in alloc; "{folder}{LIST}")?;
+    add(alloc, files, list.as_bytes(), b"T.DBF\n")
+}
+
 // The files of the other tests, and a list in this folder.
 fn files_beside(alloc: Global, folder: &str) -> Result<MemorySource, Fail> {
     let mut source = files(alloc)?;
-    let list = format!(in alloc; "{folder}{LIST}")?;
-    source.files.push(NamedFile {
-        name: Bytes::from_slice(alloc, list.as_bytes())?,
-        bytes: Bytes::from_slice(alloc, b"T.DBF\n")?,
-    })?;
+    add_list(alloc, &mut source.files, folder)?;
     Ok(source)
+}
+
+// What a command line over these files is told on standard error.
+fn line_told(alloc: Global, folder: &str, words: &[&str]) -> Result<Vec<u8>, Fail> {
+    let mut source = files_beside(alloc, folder)?;
+    let (_, line, _) = answer(alloc, &mut source, words);
+    Ok(line)
 }
 
 #[test]
@@ -58,8 +66,7 @@ fn folders_that_are_not_recovered_are_told(rt: HostRuntime) -> Result<(), Fail> 
         (&["table_tool", "check", "GOOD.SET"], "elsewhere/", ""),
     ];
     for (words, folder, text) in cases {
-        let mut source = files_beside(rt.alloc(), folder)?;
-        let (_, line, _) = answer(rt.alloc(), &mut source, words);
+        let line = line_told(rt.alloc(), folder, words)?;
         assert_eq!(rt; line.as_slice(), text.as_bytes());
     }
     Ok(())
