@@ -1,6 +1,6 @@
 //! Why lines are bad.
 
-use station_lines::{BadLine, BadSetupLine, parse_setup, why_bad, why_bad_setup_line};
+use station_lines::{BadLine, BadSetupLine, SetupEntry, parse_setup, why_bad, why_bad_setup_line};
 use std::alloc::Global;
 use std::test::Fail;
 
@@ -17,11 +17,19 @@ const GOOD_LINES: [&[u8]; 9] = [
     b"REPLACE NAME WITH \"\xef\xbb\xbf\"",
 ];
 
+// The first of these lines that is bad.
+fn first_bad(alloc: Global, good: &[&[u8]]) -> Option<usize> {
+    for i in 0..good.len() {
+        if why_bad(alloc, good[i]).is_some() {
+            return Some(i);
+        }
+    }
+    None
+}
+
 #[test]
 fn good_lines_have_no_reason(rt: HostRuntime) -> Result<(), Fail> {
-    for line in GOOD_LINES {
-        assert_eq!(rt; why_bad(rt.alloc(), line), None);
-    }
+    assert_eq!(rt; first_bad(rt.alloc(), &GOOD_LINES), None);
     Ok(())
 }
 
@@ -120,28 +128,49 @@ const GOOD_SETUP_LINES: [&[u8]; 6] = [
     b"STATION 's.prg",
 ];
 
+// The first of these lines that is bad after these entries.
+fn first_bad_after(entries: &[SetupEntry], good: &[&[u8]]) -> Option<usize> {
+    for i in 0..good.len() {
+        if why_bad_setup_line(entries, good[i]).is_some() {
+            return Some(i);
+        }
+    }
+    None
+}
+
+// The same after the lines of the setup.
+fn first_bad_setup_line(alloc: Global, good: &[&[u8]]) -> Result<Option<usize>, Fail> {
+    let entries = parse_setup(alloc, BEFORE)?;
+    Ok(first_bad_after(&entries, good))
+}
+
 #[test]
 fn good_setup_lines_have_no_reason(rt: HostRuntime) -> Result<(), Fail> {
-    let entries = parse_setup(rt.alloc(), BEFORE)?;
-    for line in GOOD_SETUP_LINES {
-        assert_eq!(rt; why_bad_setup_line(&entries, line), None);
-    }
+    assert_eq!(rt; first_bad_setup_line(rt.alloc(), &GOOD_SETUP_LINES)?, None);
     Ok(())
 }
 
-// The first case whose line has another reason after the lines of the setup.
+// The first case whose line has another reason after these entries.
+fn first_other_after(
+    entries: &[SetupEntry],
+    cases: &[(&[u8], BadSetupLine<'static>)],
+) -> Option<usize> {
+    for i in 0..cases.len() {
+        let (line, wanted) = &cases[i];
+        if why_bad_setup_line(entries, line) != Some(*wanted) {
+            return Some(i);
+        }
+    }
+    None
+}
+
+// The same after the lines of the setup.
 fn first_other_setup_line(
     alloc: Global,
     cases: &[(&[u8], BadSetupLine<'static>)],
 ) -> Result<Option<usize>, Fail> {
     let entries = parse_setup(alloc, BEFORE)?;
-    for i in 0..cases.len() {
-        let (line, wanted) = &cases[i];
-        if why_bad_setup_line(&entries, line) != Some(*wanted) {
-            return Ok(Some(i));
-        }
-    }
-    Ok(None)
+    Ok(first_other_after(&entries, cases))
 }
 
 #[test]

@@ -1,6 +1,4 @@
-use crate::tests::script::{Keeps, are_read, first_misread_of_names};
-use catalogue_core::Command;
-use station_lines::Line;
+use crate::tests::script::{Keeps, are_bad, first_misread_of_names};
 use std::test::Fail;
 
 // Lines of INDEX ON, the name of each and its expression.
@@ -55,6 +53,6 @@ const WRONG_LINES: &[u8] = b"INDEX\nINDEX ON\nINDEX ON NAME\nINDEX ON NAME TO\nI
 fn index_on_lines(rt: HostRuntime) -> Result<(), Fail> {
     let alloc = rt.alloc();
     assert_eq!(rt; first_misread_of_names(alloc, &INDEX_LINES)?, None);
-    assert!(rt; are_read(alloc, WRONG_LINES, &Line::Run(Command::Bad))?);
+    assert!(rt; are_bad(alloc, WRONG_LINES)?);
     Ok(())
 }

@@ -2,7 +2,7 @@
 
 use byte_io::Bytes;
 use catalogue_core::{Answer, Command, Entry, Refusal};
-use station_lines::{Line, cut_entry, entry_line, line_bound, parse_line};
+use station_lines::{CutEntry, Line, cut_entry, entry_line, line_bound, parse_line};
 use std::alloc::{AllocError, Global};
 use std::test::Fail;
 
@@ -114,50 +114,76 @@ fn answer_of(alloc: Global, said: Said) -> Result<Answer, AllocError> {
     })
 }
 
-// The line of an entry, whose command is that of a line.
-fn written(
+// Whether the entry of a command and what is said to it has this line.
+fn has_line(
+    alloc: Global,
+    station: u32,
+    command: &Command,
+    said: Said,
+    wanted: &[u8],
+) -> Result<bool, AllocError> {
+    let answer = answer_of(alloc, said)?;
+    Ok(entry_line(alloc, station, command, &answer)?.as_slice() == wanted)
+}
+
+// Whether the entry of a line's command has this line.
+fn is_written(
     alloc: Global,
     station: u32,
     line: &[u8],
     said: Said,
-) -> Result<Option<Bytes>, AllocError> {
-    let Line::Run(command) = parse_line(alloc, line)? else {
-        return Ok(None);
-    };
-    let answer = answer_of(alloc, said)?;
-    Ok(Some(entry_line(alloc, station, &command, &answer)?))
+    wanted: &[u8],
+) -> Result<bool, AllocError> {
+    match parse_line(alloc, line)? {
+        Line::Run(command) => has_line(alloc, station, &command, said, wanted),
+        _ => Ok(false),
+    }
 }
 
-// Whether a line, with these bytes after it, is cut off them, and its parts make the line again.
-fn is_cut_back(alloc: Global, station: u32, line: &[u8], rest: &[u8]) -> Result<bool, AllocError> {
-    let mut text = Vec::from_slice(alloc, line)?;
-    text.extend_from_slice(rest)?;
-    let Some(cut) = cut_entry(text.as_slice()) else {
-        return Ok(false);
-    };
-    let mut again = Vec::new(alloc);
+// Appends the line that the parts of a cut make.
+fn append_line(alloc: Global, text: &mut Vec<u8>, cut: &CutEntry<'_>) -> Result<(), AllocError> {
     let counts = format!(in alloc;
         "{} {} {} ",
         cut.station,
         cut.command.len(),
         cut.answer.len()
     )?;
-    again.extend_from_slice(counts.as_bytes())?;
-    again.extend_from_slice(cut.command)?;
-    again.extend_from_slice(b" ")?;
-    again.extend_from_slice(cut.answer)?;
-    again.extend_from_slice(b"\n")?;
+    text.extend_from_slice(counts.as_bytes())?;
+    text.extend_from_slice(cut.command)?;
+    text.extend_from_slice(b" ")?;
+    text.extend_from_slice(cut.answer)?;
+    text.extend_from_slice(b"\n")?;
+    Ok(())
+}
+
+// Whether a line is cut off this text and leaves these bytes, and its parts make the line again.
+fn is_cut_into(
+    alloc: Global,
+    text: &[u8],
+    station: u32,
+    line: &[u8],
+    rest: &[u8],
+) -> Result<bool, AllocError> {
+    let Some(cut) = cut_entry(text) else {
+        return Ok(false);
+    };
+    let mut again = Vec::new(alloc);
+    append_line(alloc, &mut again, &cut)?;
     Ok(cut.station == u64::from(station) && again.as_slice() == line && cut.rest == rest)
+}
+
+// Whether a line, with these bytes after it, is cut off them, and its parts make the line again.
+fn is_cut_back(alloc: Global, station: u32, line: &[u8], rest: &[u8]) -> Result<bool, AllocError> {
+    let mut text = Vec::from_slice(alloc, line)?;
+    text.extend_from_slice(rest)?;
+    is_cut_into(alloc, text.as_slice(), station, line, rest)
 }
 
 // The index of the first entry that has another line.
 fn first_miswritten(alloc: Global) -> Result<Option<usize>, AllocError> {
     for i in 0..ENTRIES.len() {
         let (station, line, said, wanted) = ENTRIES[i];
-        let Some(text) = written(alloc, station, line, said)? else {
-            return Ok(Some(i));
-        };
-        if text.as_slice() != wanted {
+        if !is_written(alloc, station, line, said, wanted)? {
             return Ok(Some(i));
         }
     }
@@ -175,20 +201,39 @@ fn first_miscut(alloc: Global, rest: &[u8]) -> Result<Option<usize>, AllocError>
     Ok(None)
 }
 
+// Whether the bound of an entry is a line's length, or at most 300 bytes over it.
+fn is_near(entry: &Entry, length: usize) -> bool {
+    let bound = line_bound(entry);
+    bound >= length && bound.saturating_sub(length) <= 300
+}
+
+// Whether the bound of the entry of a line's command is near this length.
+fn is_bound_near(
+    alloc: Global,
+    station: u32,
+    line: &[u8],
+    said: Said,
+    length: usize,
+) -> Result<bool, AllocError> {
+    let answer = answer_of(alloc, said)?;
+    match parse_line(alloc, line)? {
+        Line::Run(command) => {
+            let entry = Entry {
+                station,
+                command,
+                answer,
+            };
+            Ok(is_near(&entry, length))
+        }
+        _ => Ok(false),
+    }
+}
+
 // The index of the first entry whose bound is less than its line's length, or more than 300 bytes over it.
 fn first_far_bound(alloc: Global) -> Result<Option<usize>, AllocError> {
     for i in 0..ENTRIES.len() {
         let (station, line, said, wanted) = ENTRIES[i];
-        let Line::Run(command) = parse_line(alloc, line)? else {
-            return Ok(Some(i));
-        };
-        let answer = answer_of(alloc, said)?;
-        let bound = line_bound(&Entry {
-            station,
-            command,
-            answer,
-        });
-        if bound < wanted.len() || bound.saturating_sub(wanted.len()) > 300 {
+        if !is_bound_near(alloc, station, line, said, wanted.len())? {
             return Ok(Some(i));
         }
     }
@@ -243,17 +288,28 @@ fn is_long_entry(
     Ok(line.as_slice().starts_with(head) && is_cut_back(alloc, 7, line.as_slice(), b"\n")?)
 }
 
+// Whether the entry of a MEMO of a long text is cut back.
+fn is_memo_cut_back(alloc: Global) -> Result<bool, AllocError> {
+    let memo = Command::Memo {
+        field: Bytes::from_slice(alloc, b"NOTES")?,
+        text: long_text(alloc, b'(')?,
+    };
+    let head = b"7 65553 2 MEMO NOTES WITH \"()*+,-./0123";
+    is_long_entry(alloc, &memo, &Answer::Done, head)
+}
+
+// Whether the entry of a long answer is cut back.
+fn is_answer_cut_back(alloc: Global) -> Result<bool, AllocError> {
+    let show = Command::Show(Bytes::from_slice(alloc, b"NOTES")?);
+    let answer = Answer::Text(long_text(alloc, 0)?);
+    is_long_entry(alloc, &show, &answer, b"7 7 65535 ? NOTES \0\x01")
+}
+
 // A MEMO of 65,535 bytes between quotes, of which it has none; and an answer of as many bytes, quotes and LF among them.
 #[test]
 fn a_long_memo_is_cut_back(rt: HostRuntime) -> Result<(), Fail> {
     let alloc = rt.alloc();
-    let field = Bytes::from_slice(alloc, b"NOTES")?;
-    let text = long_text(alloc, b'(')?;
-    let memo = Command::Memo { field, text };
-    let head = b"7 65553 2 MEMO NOTES WITH \"()*+,-./0123";
-    assert!(rt; is_long_entry(alloc, &memo, &Answer::Done, head)?);
-    let show = Command::Show(Bytes::from_slice(alloc, b"NOTES")?);
-    let answer = Answer::Text(long_text(alloc, 0)?);
-    assert!(rt; is_long_entry(alloc, &show, &answer, b"7 7 65535 ? NOTES \0\x01")?);
+    assert!(rt; is_memo_cut_back(alloc)?);
+    assert!(rt; is_answer_cut_back(alloc)?);
     Ok(())
 }

@@ -1,6 +1,6 @@
 //! Lines longer than a text of a table or a line of dBASE may be: no line is cut.
 
-use crate::tests::script::{Keeps, are_read, line_of};
+use crate::tests::script::{Keeps, are_kept, are_read};
 use byte_io::Bytes;
 use catalogue_core::Command;
 use station_lines::Line;
@@ -28,13 +28,17 @@ fn joined(alloc: Global, front: &[u8], middle: &[u8], back: &[u8]) -> Result<Byt
     Ok(Bytes::from_vec(line))
 }
 
+// Whether a line of this text keeps it.
+fn is_text_kept(alloc: Global, front: &[u8], keeps: Keeps, text: &[u8]) -> Result<bool, Fail> {
+    let line = joined(alloc, front, text, b"\"\n")?;
+    are_kept(alloc, line.as_slice(), keeps, b"F", text)
+}
+
 // The first length of a text with which a line of it is misread.
 fn first_misread_text(alloc: Global, front: &[u8], keeps: Keeps) -> Result<Option<usize>, Fail> {
     for count in LENGTHS {
         let text = text_of(alloc, count)?;
-        let line = joined(alloc, front, text.as_slice(), b"\"\n")?;
-        let wanted = line_of(alloc, keeps, b"F", text.as_slice())?;
-        if !are_read(alloc, line.as_slice(), &wanted)? {
+        if !is_text_kept(alloc, front, keeps, text.as_slice())? {
             return Ok(Some(count));
         }
     }
@@ -59,6 +63,18 @@ fn run_of(alloc: Global, byte: u8, count: usize) -> Result<Bytes, AllocError> {
     Ok(Bytes::from_vec(vec![in alloc; byte; count]?))
 }
 
+// Whether a line with a long run of this byte between its parts is read so.
+fn is_run_read(
+    alloc: Global,
+    case: &(&[u8], u8, &[u8], Line),
+    count: usize,
+) -> Result<bool, AllocError> {
+    let (front, byte, back, wanted) = case;
+    let run = run_of(alloc, *byte, count)?;
+    let line = joined(alloc, front, run.as_slice(), back)?;
+    are_read(alloc, line.as_slice(), wanted)
+}
+
 // The first case of a line that is misread with a long run of its byte between its parts.
 fn first_misread_run(
     alloc: Global,
@@ -66,53 +82,65 @@ fn first_misread_run(
     count: usize,
 ) -> Result<Option<usize>, AllocError> {
     for i in 0..cases.len() {
-        let (front, byte, back, wanted) = &cases[i];
-        let run = run_of(alloc, *byte, count)?;
-        let line = joined(alloc, front, run.as_slice(), back)?;
-        if !are_read(alloc, line.as_slice(), wanted)? {
+        if !is_run_read(alloc, &cases[i], count)? {
             return Ok(Some(i));
         }
     }
     Ok(None)
 }
 
-#[test]
-fn words_and_gaps_of_any_length_are_read(rt: HostRuntime) -> Result<(), Fail> {
-    let alloc = rt.alloc();
+// The same over lines with a gap, a remark, a word and a number of this length.
+fn first_misread_of_length(alloc: Global, count: usize) -> Result<Option<usize>, AllocError> {
     let cases: [(&[u8], u8, &[u8], Line); 4] = [
         (b"GO", b' ', b"TOP", Line::Run(Command::Top)),
         (b"*", b'x', b" PACK", Line::Blank),
         (b"PAC", b'K', b"", Line::Run(Command::Bad)),
         (b"SKIP ", b'0', b"1", Line::Run(Command::Bad)),
     ];
+    first_misread_run(alloc, &cases, count)
+}
+
+#[test]
+fn words_and_gaps_of_any_length_are_read(rt: HostRuntime) -> Result<(), Fail> {
     for count in LENGTHS {
-        assert_eq!(rt; first_misread_run(alloc, &cases, count)?, None);
+        assert_eq!(rt; first_misread_of_length(rt.alloc(), count)?, None);
     }
     Ok(())
+}
+
+// Whether a line of this expression keeps it.
+fn is_expression_kept(alloc: Global, expr: &[u8]) -> Result<bool, Fail> {
+    let line = joined(alloc, b"INDEX ON ", expr, b" TO x")?;
+    are_kept(alloc, line.as_slice(), Keeps::IndexOn, b"X", expr)
+}
+
+// Whether a line of an expression with a text of `count` bytes keeps it.
+fn is_long_expression_kept(alloc: Global, count: usize) -> Result<bool, Fail> {
+    let text = text_of(alloc, count)?;
+    let expr = joined(alloc, b"(", text.as_slice(), b")")?;
+    is_expression_kept(alloc, expr.as_slice())
 }
 
 #[test]
 fn expressions_of_any_length_are_kept(rt: HostRuntime) -> Result<(), Fail> {
-    let alloc = rt.alloc();
     for count in LENGTHS {
-        let text = text_of(alloc, count)?;
-        let expr = joined(alloc, b"(", text.as_slice(), b")")?;
-        let line = joined(alloc, b"INDEX ON ", expr.as_slice(), b" TO x")?;
-        let wanted = line_of(alloc, Keeps::IndexOn, b"X", expr.as_slice())?;
-        assert!(rt; are_read(alloc, line.as_slice(), &wanted)?);
+        assert!(rt; is_long_expression_kept(rt.alloc(), count)?);
     }
     Ok(())
 }
 
+// Whether a line of a name of `count` small letters keeps it in capitals.
+fn is_long_name_kept(alloc: Global, count: usize) -> Result<bool, Fail> {
+    let word = run_of(alloc, b'x', count)?;
+    let name = run_of(alloc, b'X', count)?;
+    let line = joined(alloc, b"USE ", word.as_slice(), b" EXCLUSIVE")?;
+    are_kept(alloc, line.as_slice(), Keeps::Use(true), name.as_slice(), b"")
+}
+
 #[test]
 fn names_of_any_length_are_kept(rt: HostRuntime) -> Result<(), Fail> {
-    let alloc = rt.alloc();
     for count in LENGTHS {
-        let word = run_of(alloc, b'x', count)?;
-        let name = run_of(alloc, b'X', count)?;
-        let line = joined(alloc, b"USE ", word.as_slice(), b" EXCLUSIVE")?;
-        let wanted = line_of(alloc, Keeps::Use(true), name.as_slice(), b"")?;
-        assert!(rt; are_read(alloc, line.as_slice(), &wanted)?);
+        assert!(rt; is_long_name_kept(rt.alloc(), count)?);
     }
     Ok(())
 }

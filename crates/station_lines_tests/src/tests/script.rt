@@ -5,6 +5,12 @@ use station_lines::{Line, lines, parse_line};
 use std::alloc::{AllocError, Global};
 use std::test::Fail;
 
+// Whether a line has this meaning.
+pub(crate) fn is_read(alloc: Global, line: &[u8], wanted: &Line) -> Result<bool, AllocError> {
+    let read = parse_line(alloc, line)?;
+    Ok(read == *wanted)
+}
+
 // Whether each line of a script has this meaning.
 pub(crate) fn are_read(alloc: Global, script: &[u8], wanted: &Line) -> Result<bool, AllocError> {
     let mut rest = lines(script);
@@ -12,12 +18,17 @@ pub(crate) fn are_read(alloc: Global, script: &[u8], wanted: &Line) -> Result<bo
         let Some(line) = rest.next_line() else {
             return Ok(true);
         };
-        let read = parse_line(alloc, line)?;
-        if read != *wanted {
+        if !is_read(alloc, line, wanted)? {
             return Ok(false);
         }
     }
     Ok(true)
+}
+
+// Whether each line of a script is bad.
+pub(crate) fn are_bad(alloc: Global, script: &[u8]) -> Result<bool, AllocError> {
+    let bad = Line::Run(Command::Bad);
+    are_read(alloc, script, &bad)
 }
 
 // The index of the first case with a line that is not read as its command.
@@ -47,7 +58,7 @@ pub(crate) enum Keeps {
     ReplaceBadDate,
 }
 
-fn value_of(keeps: Keeps, text: Bytes) -> Result<Literal, Fail> {
+fn value_of(alloc: Global, keeps: Keeps, text: &[u8]) -> Result<Literal, Fail> {
     Ok(match keeps {
         Keeps::ReplaceNumber(digits, scale) => Literal::Number {
             digits: WholeNumber::new(digits),
@@ -59,41 +70,59 @@ fn value_of(keeps: Keeps, text: Bytes) -> Result<Literal, Fail> {
         }
         Keeps::ReplaceBlankDate => Literal::BlankDate,
         Keeps::ReplaceBadDate => Literal::BadDate,
-        _ => Literal::Text(text),
+        _ => Literal::Text(Bytes::from_slice(alloc, text)?),
     })
 }
 
-pub(crate) fn line_of(alloc: Global, keeps: Keeps, name: &[u8], text: &[u8]) -> Result<Line, Fail> {
-    let field = Bytes::from_slice(alloc, name)?;
-    let text = Bytes::from_slice(alloc, text)?;
-    match keeps {
-        Keeps::Use(exclusive) => Ok(Line::Run(Command::UseTable {
-            name: field,
+// The command that keeps this name and this text.
+fn command_of(alloc: Global, keeps: Keeps, name: &[u8], text: &[u8]) -> Result<Command, Fail> {
+    Ok(match keeps {
+        Keeps::Use(exclusive) => Command::UseTable {
+            name: Bytes::from_slice(alloc, name)?,
             exclusive,
-        })),
-        Keeps::Seek => Ok(Line::Run(Command::Seek(text))),
-        Keeps::Show => Ok(Line::Run(Command::Show(field))),
-        Keeps::Memo => Ok(Line::Run(Command::Memo { field, text })),
-        Keeps::IndexOn => Ok(Line::Run(Command::IndexOn {
-            expr: text,
-            name: field,
-        })),
-        _ => {
-            let value = value_of(keeps, text)?;
-            Ok(Line::Run(Command::Replace { field, value }))
-        }
-    }
+        },
+        Keeps::Seek => Command::Seek(Bytes::from_slice(alloc, text)?),
+        Keeps::Show => Command::Show(Bytes::from_slice(alloc, name)?),
+        Keeps::Memo => Command::Memo {
+            field: Bytes::from_slice(alloc, name)?,
+            text: Bytes::from_slice(alloc, text)?,
+        },
+        Keeps::IndexOn => Command::IndexOn {
+            expr: Bytes::from_slice(alloc, text)?,
+            name: Bytes::from_slice(alloc, name)?,
+        },
+        _ => Command::Replace {
+            field: Bytes::from_slice(alloc, name)?,
+            value: value_of(alloc, keeps, text)?,
+        },
+    })
 }
 
-// The same for commands that keep a name or a text.
+// The meaning of that command's lines.
+fn line_of(alloc: Global, keeps: Keeps, name: &[u8], text: &[u8]) -> Result<Line, Fail> {
+    Ok(Line::Run(command_of(alloc, keeps, name, text)?))
+}
+
+// Whether each line of a script is the command that keeps this name and this text.
+pub(crate) fn are_kept(
+    alloc: Global,
+    script: &[u8],
+    keeps: Keeps,
+    name: &[u8],
+    text: &[u8],
+) -> Result<bool, Fail> {
+    let wanted = line_of(alloc, keeps, name, text)?;
+    Ok(are_read(alloc, script, &wanted)?)
+}
+
+// The index of the first case with a line that is not read as the command that keeps a name or a text.
 pub(crate) fn first_misread_of_names(
     alloc: Global,
     cases: &[(&[u8], Keeps, &[u8], &[u8])],
 ) -> Result<Option<usize>, Fail> {
     for i in 0..cases.len() {
         let (script, keeps, name, text) = cases[i];
-        let wanted = line_of(alloc, keeps, name, text)?;
-        if !are_read(alloc, script, &wanted)? {
+        if !are_kept(alloc, script, keeps, name, text)? {
             return Ok(Some(i));
         }
     }
@@ -188,6 +217,18 @@ fn commands_of_functions() -> [(&'static [u8], Line); 9] {
     ]
 }
 
+// The index of the first command of the table that is misread.
+fn first_misread_keyword(alloc: Global) -> Result<Option<usize>, AllocError> {
+    let cases = commands_of_keywords();
+    first_misread(alloc, &cases)
+}
+
+// The index of the first command with a function that is misread.
+fn first_misread_function(alloc: Global) -> Result<Option<usize>, AllocError> {
+    let cases = commands_of_functions();
+    first_misread(alloc, &cases)
+}
+
 const COMMANDS_OF_NAMES: [(&[u8], Keeps, &[u8], &[u8]); 7] = [
     (
         b"USE PEOPLE\nUSE people\n\tuse  People ",
@@ -247,22 +288,25 @@ const WRONG_LINES: &[u8] = b"SELECT\nSELECT 1 2\nSEL 1\nSELECT -1\nSELECT A\nUSE
     MEMO F WITH 'A\nDEL\nDELETE 1\nREC\nPAC\nUNL\nUNLOCK 1\n?NAME\n\
     ? RLOCK(\nDISPLAY\n";
 
-#[test]
-fn shortened_keywords(rt: HostRuntime) -> Result<(), Fail> {
-    let alloc = rt.alloc();
+// The index of the first case with a line that is misread: words shortened, remarks and lines without words.
+fn first_misread_short_line(alloc: Global) -> Result<Option<usize>, AllocError> {
     let cases: [(&[u8], Line); 4] = [
         (b"appe blan", Line::Run(Command::AppendBlank)),
         (b"APP BLANK\nREPLACE NAME WITH \"A", Line::Run(Command::Bad)),
         (b"* x\n  \t* remark\n*\n\n \t ", Line::Blank),
         (b"DISP STAT", Line::Status),
     ];
-    assert_eq!(rt; first_misread(alloc, &cases)?, None);
-    Ok(())
+    first_misread(alloc, &cases)
 }
 
 #[test]
-fn script_line_forms(rt: HostRuntime) -> Result<(), Fail> {
-    let alloc = rt.alloc();
+fn shortened_keywords(rt: HostRuntime) -> Result<(), Fail> {
+    assert_eq!(rt; first_misread_short_line(rt.alloc())?, None);
+    Ok(())
+}
+
+// The index of the first case with a line that is misread: bad lines, and commands in small letters.
+fn first_misread_form(alloc: Global) -> Result<Option<usize>, AllocError> {
     let cases: [(&[u8], Line); 4] = [
         (
             b"GO 10000000000\n? LOCK ()\nSEEK \"A\" B\nunlo al",
@@ -272,6 +316,12 @@ fn script_line_forms(rt: HostRuntime) -> Result<(), Fail> {
         (b"skip -3", Line::Run(Command::Skip(-3))),
         (b"unlo all", Line::Run(Command::UnlockAll)),
     ];
+    first_misread(alloc, &cases)
+}
+
+#[test]
+fn script_line_forms(rt: HostRuntime) -> Result<(), Fail> {
+    let alloc = rt.alloc();
     let names: [(&[u8], Keeps, &[u8], &[u8]); 5] = [
         (
             b"repl name with -.5",
@@ -294,18 +344,28 @@ fn script_line_forms(rt: HostRuntime) -> Result<(), Fail> {
             b"",
         ),
     ];
-    assert_eq!(rt; first_misread(alloc, &cases)?, None);
-    assert_eq!(rt; first_misread_of_names(alloc, &names)?, None);
+    assert_eq!(rt;
+        [
+            first_misread_form(alloc)?,
+            first_misread_of_names(alloc, &names)?
+        ],
+        [None, None]
+    );
     Ok(())
 }
 
 #[test]
 fn every_command_in_three_spellings(rt: HostRuntime) -> Result<(), Fail> {
     let alloc = rt.alloc();
-    assert_eq!(rt; first_misread(alloc, &commands_of_keywords())?, None);
-    assert_eq!(rt; first_misread(alloc, &commands_of_functions())?, None);
-    assert_eq!(rt; first_misread_of_names(alloc, &COMMANDS_OF_NAMES)?, None);
-    assert!(rt; are_read(alloc, WRONG_LINES, &Line::Run(Command::Bad))?);
+    assert_eq!(rt;
+        [
+            first_misread_keyword(alloc)?,
+            first_misread_function(alloc)?,
+            first_misread_of_names(alloc, &COMMANDS_OF_NAMES)?
+        ],
+        [None, None, None]
+    );
+    assert!(rt; are_bad(alloc, WRONG_LINES)?);
     Ok(())
 }
 
@@ -358,16 +418,17 @@ fn values_of_each_kind(rt: HostRuntime) -> Result<(), Fail> {
 #[test]
 fn odd_bytes_are_bytes(rt: HostRuntime) -> Result<(), Fail> {
     let alloc = rt.alloc();
-    let text = b"\0\x1a\x80\xff\r";
-    let wanted = Line::Run(Command::Seek(Bytes::from_slice(alloc, text)?));
-    assert!(rt; are_read(alloc, b"SEEK \"\0\x1a\x80\xff\r\"", &wanted)?);
+    let text: &[u8] = b"\0\x1a\x80\xff\r";
     assert!(rt;
-        are_read(
+        are_kept(
             alloc,
-            b"SEEK\0 'A'\nUSE \x80T\nPACK\r",
-            &Line::Run(Command::Bad)
+            b"SEEK \"\0\x1a\x80\xff\r\"",
+            Keeps::Seek,
+            b"",
+            text
         )?
     );
+    assert!(rt; are_bad(alloc, b"SEEK\0 'A'\nUSE \x80T\nPACK\r")?);
     Ok(())
 }
 
@@ -406,6 +467,18 @@ fn record_locks(alloc: Global, numbers: &[u64]) -> Result<Line, AllocError> {
     Ok(Line::Run(Command::RecordLocks(numbers)))
 }
 
+// Whether each line of a script locks the records of a list.
+fn are_locks(alloc: Global, script: &[u8], numbers: &[u64]) -> Result<bool, AllocError> {
+    let wanted = record_locks(alloc, numbers)?;
+    are_read(alloc, script, &wanted)
+}
+
+// Whether each line of a script locks the record of its station.
+fn are_locks_of_one(alloc: Global, script: &[u8]) -> Result<bool, AllocError> {
+    let wanted = Line::Run(Command::RecordLock);
+    are_read(alloc, script, &wanted)
+}
+
 #[test]
 fn lists_of_records(rt: HostRuntime) -> Result<(), Fail> {
     let alloc = rt.alloc();
@@ -416,14 +489,12 @@ fn lists_of_records(rt: HostRuntime) -> Result<(), Fail> {
         (b"? RLOCK(9999999999,7,7)", &[9_999_999_999, 7, 7]),
     ];
     for (script, numbers) in lists {
-        let line = record_locks(alloc, numbers)?;
-        assert!(rt; are_read(alloc, script, &line)?);
+        assert!(rt; are_locks(alloc, script, numbers)?);
     }
-    let one: &[u8] = b"? RLOCK()\n? lock()";
-    assert!(rt; are_read(alloc, one, &Line::Run(Command::RecordLock))?);
+    assert!(rt; are_locks_of_one(alloc, b"? RLOCK()\n? lock()")?);
     let bad: &[u8] =
         b"? RLOCK(,1)\n? RLOCK(1,)\n? RLOCK(1,,2)\n? RLOCK(,)\n? RLOCK(12345678901)\n? RLOCK(1)x\n\
 ? RLOCK(1, 2)\n? RLOCK(1\n? RLOCK 1)\n? RLOCK (1)\n? FLOCK(1)\n? RLOCK(-1)\n? RLOCK(1.)\n? XRLOCK(1)\n? RLOCK(1))";
-    assert!(rt; are_read(alloc, bad, &Line::Run(Command::Bad))?);
+    assert!(rt; are_bad(alloc, bad)?);
     Ok(())
 }

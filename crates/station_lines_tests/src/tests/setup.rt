@@ -1,13 +1,19 @@
 use byte_io::Bytes;
 use station_lines::{SetupEntry, SetupFault, parse_setup};
 use std::alloc::Global;
+use std::process::Abort;
 use std::test::Fail;
+
+// Whether a text is bad at this line.
+fn is_bad_at(alloc: Global, text: &[u8], number: usize) -> bool {
+    parse_setup(alloc, text).err() == Some(SetupFault::Bad(number))
+}
 
 // The first case whose text is not bad at its line.
 fn first_unfound(alloc: Global, cases: &[(&[u8], usize)]) -> Option<usize> {
     for i in 0..cases.len() {
-        let (text, number) = &cases[i];
-        if parse_setup(alloc, text).err() != Some(SetupFault::Bad(*number)) {
+        let (text, number) = cases[i];
+        if !is_bad_at(alloc, text, number) {
             return Some(i);
         }
     }
@@ -94,12 +100,22 @@ const SAID: [Wanted; 6] = [
     Wanted::Station(b"s.prg\r"),
 ];
 
+// Asserts that the entries say what is written down, and no more.
+fn assert_said(rt: &impl Abort, entries: &[SetupEntry]) {
+    assert_eq!(rt; (entries.len(), first_other(entries, &SAID)), (6, None));
+}
+
 #[test]
 fn setup_lines_are_read_in_order(rt: HostRuntime) -> Result<(), Fail> {
     let entries = parse_setup(rt.alloc(), LINES)?;
-    assert_eq!(rt; entries.len(), 6);
-    assert_eq!(rt; first_other(&entries, &SAID), None);
+    assert_said(&rt, &entries);
     Ok(())
+}
+
+// How many entries a setup has.
+fn entry_count(alloc: Global, text: &[u8]) -> Result<usize, Fail> {
+    let entries = parse_setup(alloc, text)?;
+    Ok(entries.len())
 }
 
 #[test]
@@ -107,7 +123,7 @@ fn empty_setup_says_nothing(rt: HostRuntime) -> Result<(), Fail> {
     let alloc = rt.alloc();
     let texts: [&[u8]; 4] = [b"", b"\n", b"* STATION s.prg", b" \t\r\n*TABLE T t.dbf\n"];
     for text in texts {
-        assert_eq!(rt; parse_setup(alloc, text)?.len(), 0);
+        assert!(rt; entry_count(alloc, text)? == 0);
     }
     Ok(())
 }
