@@ -4,7 +4,7 @@ use byte_io::{Bytes, Failures};
 use folders::{MemorySource, NamedFile};
 use sample_files::{EMPTY_INDEX, NOTE, TABLE, with_zeros};
 use setup_check::{all_are_good, findings_text, look_at_all};
-use station_lines::parse_setup;
+use station_lines::{SetupEntry, parse_setup};
 use std::alloc::{AllocError, Global};
 use std::process::Abort;
 use std::test::*;
@@ -27,13 +27,18 @@ fn bob_and_ada(alloc: Global) -> Result<Vec<u8>, AllocError> {
     Ok(bytes)
 }
 
-// An index file: the key expression's text, the length of its keys and the leaf.
-fn index(alloc: Global, text: &[u8], key_len: u8, leaf: &[u8]) -> Result<Vec<u8>, AllocError> {
+// The header page of an index: the key expression's text and the length of its keys.
+fn header_page(alloc: Global, text: &[u8], key_len: u8) -> Result<Vec<u8>, AllocError> {
     let mut head = Vec::from_slice(alloc, &EMPTY_INDEX[..12])?;
     head.push(key_len)?;
     head.extend_from_slice(&EMPTY_INDEX[13..24])?;
     head.extend_from_slice(text)?;
-    let mut bytes = with_zeros(alloc, head.as_slice(), 512)?;
+    with_zeros(alloc, head.as_slice(), 512)
+}
+
+// An index file: the key expression's text, the length of its keys and the leaf.
+fn index(alloc: Global, text: &[u8], key_len: u8, leaf: &[u8]) -> Result<Vec<u8>, AllocError> {
+    let mut bytes = header_page(alloc, text, key_len)?;
     bytes.extend_from_slice(with_zeros(alloc, leaf, 512)?.as_slice())?;
     Ok(bytes)
 }
@@ -45,36 +50,105 @@ fn memos(alloc: Global) -> Result<Vec<u8>, AllocError> {
     Ok(bytes)
 }
 
-fn files(alloc: Global) -> Result<MemorySource, Fail> {
-    let mut files = Vec::new(alloc);
-    let swapped = bob_and_ada(alloc)?;
-    let by_name = index(alloc, b"NAME", 10, LEAF)?;
-    let by_town = index(alloc, b"TOWN", 10, LEAF)?;
-    let by_part = index(alloc, b"SUBSTR(NAME,1,4)", 10, LEAF)?;
-    let notes = memos(alloc)?;
-    let contents: [(&[u8], &[u8]); 10] = [
-        (b"T.DBF", &TABLE),
-        (b"S.DBF", swapped.as_slice()),
-        (b"S.NDX", by_name.as_slice()),
-        (b"TOWN.NDX", by_town.as_slice()),
-        (b"PART.NDX", by_part.as_slice()),
-        (b"BAD.DBF", b"\x03"),
-        (b"BAD.NDX", b""),
-        (b"NOTE.DBF", &NOTE),
-        (b"NOTE.DBT", notes.as_slice()),
-        (b"A.PRG", b"USE GOOD\n"),
-    ];
-    for (name, bytes) in contents {
-        files.push(NamedFile {
-            name: Bytes::from_slice(alloc, name)?,
-            bytes: Bytes::from_slice(alloc, bytes)?,
-        })?;
+// Adds a file of this name.
+fn add(
+    alloc: Global,
+    files: &mut Vec<NamedFile>,
+    name: &[u8],
+    bytes: &[u8],
+) -> Result<(), AllocError> {
+    files.push(NamedFile {
+        name: Bytes::from_slice(alloc, name)?,
+        bytes: Bytes::from_slice(alloc, bytes)?,
+    })?;
+    Ok(())
+}
+
+// Adds files of these names.
+fn add_each(
+    alloc: Global,
+    files: &mut Vec<NamedFile>,
+    contents: &[(&[u8], &[u8])],
+) -> Result<(), AllocError> {
+    for i in 0..contents.len() {
+        let (name, bytes) = contents[i];
+        add(alloc, files, name, bytes)?;
     }
+    Ok(())
+}
+
+// Files of these names, of which so many loads come to the file.
+fn source_of(
+    alloc: Global,
+    contents: &[(&[u8], &[u8])],
+    loads: u64,
+) -> Result<MemorySource, AllocError> {
+    let mut files = Vec::new(alloc);
+    add_each(alloc, &mut files, contents)?;
     Ok(MemorySource {
         files,
-        loads: 99,
+        loads,
         failures: Failures::none(),
     })
+}
+
+// Tables and a script that are written down, and files that are no table and no index.
+const WRITTEN: [(&[u8], &[u8]); 5] = [
+    (b"T.DBF", &TABLE),
+    (b"BAD.DBF", b"\x03"),
+    (b"BAD.NDX", b""),
+    (b"NOTE.DBF", &NOTE),
+    (b"A.PRG", b"USE GOOD\n"),
+];
+
+// Adds the table of BOB and ADA, three indexes and the file of memos.
+fn add_made(alloc: Global, files: &mut Vec<NamedFile>) -> Result<(), AllocError> {
+    let by_part: &[u8] = b"SUBSTR(NAME,1,4)";
+    add(alloc, files, b"S.DBF", bob_and_ada(alloc)?.as_slice())?;
+    add(alloc, files, b"S.NDX", index(alloc, b"NAME", 10, LEAF)?.as_slice())?;
+    add(alloc, files, b"TOWN.NDX", index(alloc, b"TOWN", 10, LEAF)?.as_slice())?;
+    add(alloc, files, b"PART.NDX", index(alloc, by_part, 10, LEAF)?.as_slice())?;
+    add(alloc, files, b"NOTE.DBT", memos(alloc)?.as_slice())?;
+    Ok(())
+}
+
+fn files(alloc: Global) -> Result<MemorySource, Fail> {
+    let mut source = source_of(alloc, &WRITTEN, 99)?;
+    add_made(alloc, &mut source.files)?;
+    Ok(source)
+}
+
+// What is told of the entries of a setup.
+fn told_of_entries(
+    alloc: Global,
+    source: &mut MemorySource,
+    entries: &[SetupEntry],
+) -> Result<Vec<u8>, AllocError> {
+    let looked = look_at_all(alloc, source, entries)?;
+    findings_text(alloc, entries, &looked.findings)
+}
+
+// What is told of a setup of these files.
+fn told_of_setup(
+    alloc: Global,
+    source: &mut MemorySource,
+    setup: &[u8],
+) -> Result<Vec<u8>, Fail> {
+    let entries = parse_setup(alloc, setup)?;
+    Ok(told_of_entries(alloc, source, &entries)?)
+}
+
+// Asserts that a text is these words, what is told, and an LF.
+fn assert_told(
+    rt: &impl Abort,
+    alloc: Global,
+    text: &[u8],
+    words: &str,
+    told: &str,
+) -> Result<(), Fail> {
+    let line = format!(in alloc; "{words}{told}\n")?;
+    assert_eq!(rt; text, line.as_bytes());
+    Ok(())
 }
 
 // Setups, what is told of them, and whether all is good.
@@ -135,17 +209,38 @@ STATION  B.PRG  can't be read
     ),
 ];
 
+// What is told of the entries of a setup, and whether all is good.
+fn judged_entries(
+    alloc: Global,
+    source: &mut MemorySource,
+    entries: &[SetupEntry],
+) -> Result<(Vec<u8>, bool), AllocError> {
+    let looked = look_at_all(alloc, source, entries)?;
+    let text = findings_text(alloc, entries, &looked.findings)?;
+    Ok((text, all_are_good(&looked.findings)))
+}
+
+// The same of a setup of these files.
+fn judged_setup(
+    alloc: Global,
+    source: &mut MemorySource,
+    setup: &[u8],
+) -> Result<(Vec<u8>, bool), Fail> {
+    let entries = parse_setup(alloc, setup)?;
+    Ok(judged_entries(alloc, source, &entries)?)
+}
+
+// The same of a setup of the files.
+fn judged(alloc: Global, setup: &[u8]) -> Result<(Vec<u8>, bool), Fail> {
+    let mut source = files(alloc)?;
+    judged_setup(alloc, &mut source, setup)
+}
+
 #[test]
 fn each_file_of_a_setup_is_told(rt: HostRuntime) -> Result<(), Fail> {
-    let alloc = rt.alloc();
     for (setup, told, good) in CASES {
-        let entries = parse_setup(alloc, setup.as_bytes())?;
-        let looked = look_at_all(alloc, &mut files(alloc)?, &entries)?;
-        let text = findings_text(alloc, &entries, &looked.findings)?;
-        assert_eq!(rt;
-            (text.as_slice(), all_are_good(&looked.findings)),
-            (told.as_bytes(), good)
-        );
+        let (text, is_good) = judged(rt.alloc(), setup.as_bytes())?;
+        assert_eq!(rt; (text.as_slice(), is_good), (told.as_bytes(), good));
     }
     Ok(())
 }
@@ -200,34 +295,36 @@ const STALE: [(&[u8], &str); 9] = [
 ];
 
 // The table of BOB and ADA, and the index of this leaf.
-fn beside(alloc: Global, leaf: &[u8]) -> Result<MemorySource, Fail> {
-    let mut files = Vec::new(alloc);
-    files.push(NamedFile {
-        name: Bytes::from_slice(alloc, b"S.DBF")?,
-        bytes: Bytes::from_vec(bob_and_ada(alloc)?),
-    })?;
-    files.push(NamedFile {
-        name: Bytes::from_slice(alloc, b"X.NDX")?,
-        bytes: Bytes::from_vec(index(alloc, b"NAME", 10, leaf)?),
-    })?;
-    Ok(MemorySource {
-        files,
-        loads: 2,
-        failures: Failures::none(),
-    })
+fn beside(alloc: Global, leaf: &[u8]) -> Result<MemorySource, AllocError> {
+    let table = bob_and_ada(alloc)?;
+    let by_name = index(alloc, b"NAME", 10, leaf)?;
+    source_of(
+        alloc,
+        &[
+            (b"S.DBF", table.as_slice()),
+            (b"X.NDX", by_name.as_slice()),
+        ],
+        2,
+    )
+}
+
+// What is told of the two.
+fn told_of_leaf(alloc: Global, leaf: &[u8]) -> Result<Vec<u8>, Fail> {
+    let mut source = beside(alloc, leaf)?;
+    told_of_setup(
+        alloc,
+        &mut source,
+        b"TABLE GOOD S.DBF\nINDEX GOOD BYNAME X.NDX\n",
+    )
 }
 
 #[test]
 fn stale_indexes_are_told_in_detail(rt: HostRuntime) -> Result<(), Fail> {
     let alloc = rt.alloc();
-    let entries = parse_setup(alloc, b"TABLE GOOD S.DBF\nINDEX GOOD BYNAME X.NDX\n")?;
+    let words = "GOOD  S.DBF  2 records, 0 marked: good\nBYNAME  X.NDX  ";
     for (leaf, told) in STALE {
-        let looked = look_at_all(alloc, &mut beside(alloc, leaf)?, &entries)?;
-        let text = findings_text(alloc, &entries, &looked.findings)?;
-        let line = format!(in alloc;
-            "GOOD  S.DBF  2 records, 0 marked: good\nBYNAME  X.NDX  {told}\n"
-        )?;
-        assert_eq!(rt; text.as_slice(), line.as_bytes());
+        let text = told_of_leaf(alloc, leaf)?;
+        assert_told(&rt, alloc, text.as_slice(), words, told)?;
     }
     Ok(())
 }
@@ -308,34 +405,28 @@ fn damaged(
 }
 
 // What is told of a setup of one entry, by the file that it names.
-fn told_of(alloc: Global, setup: &[u8], name: &[u8], bytes: Vec<u8>) -> Result<Vec<u8>, Fail> {
-    let mut files = Vec::new(alloc);
-    files.push(NamedFile {
-        name: Bytes::from_slice(alloc, name)?,
-        bytes: Bytes::from_vec(bytes),
-    })?;
-    files.push(NamedFile {
-        name: Bytes::from_slice(alloc, b"T.DBF")?,
-        bytes: Bytes::from_slice(alloc, &TABLE)?,
-    })?;
-    let mut source = MemorySource {
-        files,
-        loads: 9,
-        failures: Failures::none(),
-    };
-    let entries = parse_setup(alloc, setup)?;
-    let looked = look_at_all(alloc, &mut source, &entries)?;
-    Ok(findings_text(alloc, &entries, &looked.findings)?)
+fn told_of(alloc: Global, setup: &[u8], name: &[u8], bytes: &[u8]) -> Result<Vec<u8>, Fail> {
+    let mut source = source_of(alloc, &[(name, bytes), (b"T.DBF", &TABLE)], 9)?;
+    told_of_setup(alloc, &mut source, setup)
+}
+
+// What is told of a table of these bytes.
+fn told_of_table(alloc: Global, bytes: &[u8]) -> Result<Vec<u8>, Fail> {
+    told_of(alloc, b"TABLE D D.DBF\n", b"D.DBF", bytes)
+}
+
+// What is told of the table with other bytes in place of those at an offset.
+fn told_of_damaged(alloc: Global, offset: usize, others: &[u8]) -> Result<Vec<u8>, Fail> {
+    let bytes = damaged(alloc, &TABLE, offset, others)?;
+    told_of_table(alloc, bytes.as_slice())
 }
 
 #[test]
 fn damaged_headers_are_told_with_their_numbers(rt: HostRuntime) -> Result<(), Fail> {
     let alloc = rt.alloc();
     for (offset, others, told) in DAMAGED_TABLES {
-        let bytes = damaged(alloc, &TABLE, offset, others)?;
-        let text = told_of(alloc, b"TABLE D D.DBF\n", b"D.DBF", bytes)?;
-        let line = format!(in alloc; "D  D.DBF  {told}\n")?;
-        assert_eq!(rt; text.as_slice(), line.as_bytes());
+        let text = told_of_damaged(alloc, offset, others)?;
+        assert_told(&rt, alloc, text.as_slice(), "D  D.DBF  ", told)?;
     }
     Ok(())
 }
@@ -343,14 +434,11 @@ fn damaged_headers_are_told_with_their_numbers(rt: HostRuntime) -> Result<(), Fa
 #[test]
 fn cut_tables_are_told_with_their_lengths(rt: HostRuntime) -> Result<(), Fail> {
     let alloc = rt.alloc();
+    let words = "D  D.DBF  no table: Truncated: the file is too short: ";
     for (length, told) in CUT_TABLES {
         let (front, _) = TABLE.split_at(length.min(TABLE.len()));
-        let bytes = Vec::from_slice(alloc, front)?;
-        let text = told_of(alloc, b"TABLE D D.DBF\n", b"D.DBF", bytes)?;
-        let line = format!(in alloc;
-            "D  D.DBF  no table: Truncated: the file is too short: {told}\n"
-        )?;
-        assert_eq!(rt; text.as_slice(), line.as_bytes());
+        let text = told_of_table(alloc, front)?;
+        assert_told(&rt, alloc, text.as_slice(), words, told)?;
     }
     Ok(())
 }

@@ -30,31 +30,46 @@ const MANY_FIELDS: [(u8, u8, &str); 2] = [
     (16, 254, "field 16: with it a record is too long"),
 ];
 
-// The header of a table of so many fields, each of this width.
-fn many_fields(alloc: Global, count: u8, width: u8) -> Result<Vec<u8>, AllocError> {
+// The first 32 bytes of the header of a table of so many fields.
+fn front_of_header(alloc: Global, count: u8) -> Result<Vec<u8>, AllocError> {
     let length = 33 + 32 * u16::from(count);
     let mut bytes = with_zeros(alloc, &[3, 87, 3, 15, 0, 0, 0, 0], 8)?;
     bytes.extend_from_slice(&length.to_le_bytes())?;
-    let mut bytes = with_zeros(alloc, bytes.as_slice(), 32)?;
+    with_zeros(alloc, bytes.as_slice(), 32)
+}
+
+// Appends a field of this width, with a name of its own.
+fn append_field(bytes: &mut Vec<u8>, number: u8, width: u8) -> Result<(), AllocError> {
+    bytes.extend_from_slice(&[b'A' + number / 26, b'A' + number % 26])?;
+    bytes.extend_from_slice(b"\0\0\0\0\0\0\0\0\0C\0\0\0\0")?;
+    bytes.push(width)?;
+    bytes.extend_from_slice(b"\0\0\0\0\0\0\0\0\0\0\0\0\0\0\0")?;
+    Ok(())
+}
+
+// The header of a table of so many fields, each of this width.
+fn many_fields(alloc: Global, count: u8, width: u8) -> Result<Vec<u8>, AllocError> {
+    let mut bytes = front_of_header(alloc, count)?;
     for number in 0..count {
-        bytes.extend_from_slice(&[b'A' + number / 26, b'A' + number % 26])?;
-        bytes.extend_from_slice(b"\0\0\0\0\0\0\0\0\0C\0\0\0\0")?;
-        bytes.push(width)?;
-        bytes.extend_from_slice(b"\0\0\0\0\0\0\0\0\0\0\0\0\0\0\0")?;
+        append_field(&mut bytes, number, width)?;
     }
     bytes.push(0x0d)?;
     Ok(bytes)
 }
 
+// What is told of a table of that header.
+fn told_of_many(alloc: Global, count: u8, width: u8) -> Result<Vec<u8>, Fail> {
+    let header = many_fields(alloc, count, width)?;
+    told_with(alloc, header.as_slice(), b"")
+}
+
 #[test]
 fn a_field_too_many_is_told(rt: HostRuntime) -> Result<(), Fail> {
     let alloc = rt.alloc();
+    let words = "D  D.DBF  no table: BadSchema: the fields are no schema: ";
     for (count, width, told) in MANY_FIELDS {
-        let text = told_with(alloc, many_fields(alloc, count, width)?, Vec::new(alloc))?;
-        let line = format!(in alloc;
-            "D  D.DBF  no table: BadSchema: the fields are no schema: {told}\n"
-        )?;
-        assert_eq!(rt; text.as_slice(), line.as_bytes());
+        let text = told_of_many(alloc, count, width)?;
+        assert_told(&rt, alloc, text.as_slice(), words, told)?;
     }
     Ok(())
 }
@@ -104,43 +119,37 @@ fn noted(alloc: Global, cells: &[u8; 30]) -> Result<Vec<u8>, AllocError> {
 }
 
 // The same, with a file of memos of this length that has no end marks.
-fn told_with_memos(alloc: Global, dbf: Vec<u8>, dbt_length: usize) -> Result<Vec<u8>, Fail> {
+fn told_with_memos(alloc: Global, dbf: &[u8], dbt_length: usize) -> Result<Vec<u8>, Fail> {
     let mut memos = Vec::new(alloc);
     memos.resize(dbt_length, b'a')?;
-    told_with(alloc, dbf, memos)
+    told_with(alloc, dbf, memos.as_slice())
 }
 
 // What is told of the table of these bytes, with this file of memos.
-fn told_with(alloc: Global, dbf: Vec<u8>, memos: Vec<u8>) -> Result<Vec<u8>, Fail> {
-    let mut files = Vec::new(alloc);
-    files.push(NamedFile {
-        name: Bytes::from_slice(alloc, b"D.DBF")?,
-        bytes: Bytes::from_vec(dbf),
-    })?;
-    files.push(NamedFile {
-        name: Bytes::from_slice(alloc, b"D.DBT")?,
-        bytes: Bytes::from_vec(memos),
-    })?;
-    let mut source = MemorySource {
-        files,
-        loads: 2,
-        failures: Failures::none(),
-    };
-    let entries = parse_setup(alloc, b"TABLE D D.DBF D.DBT\n")?;
-    let looked = look_at_all(alloc, &mut source, &entries)?;
-    Ok(findings_text(alloc, &entries, &looked.findings)?)
+fn told_with(alloc: Global, dbf: &[u8], memos: &[u8]) -> Result<Vec<u8>, Fail> {
+    let mut source = source_of(alloc, &[(b"D.DBF", dbf), (b"D.DBT", memos)], 2)?;
+    told_of_setup(alloc, &mut source, b"TABLE D D.DBF D.DBT\n")
+}
+
+// What is told of that head with other bytes in place of those at an offset.
+fn told_of_damaged_head(alloc: Global, offset: usize, others: &[u8]) -> Result<Vec<u8>, Fail> {
+    let bytes = damaged(alloc, &HEAD, offset, others)?;
+    told_with_memos(alloc, bytes.as_slice(), 1_600)
+}
+
+// What is told of the table of these memo cells, with a file of memos of this length.
+fn told_of_cells(alloc: Global, cells: &[u8; 30], dbt_length: usize) -> Result<Vec<u8>, Fail> {
+    let bytes = noted(alloc, cells)?;
+    told_with_memos(alloc, bytes.as_slice(), dbt_length)
 }
 
 #[test]
 fn damaged_fields_are_told_with_their_numbers(rt: HostRuntime) -> Result<(), Fail> {
     let alloc = rt.alloc();
+    let words = "D  D.DBF  no table: BadSchema: the fields are no schema";
     for (offset, others, told) in DAMAGED_FIELDS {
-        let bytes = damaged(alloc, &HEAD, offset, others)?;
-        let text = told_with_memos(alloc, bytes, 1_600)?;
-        let line = format!(in alloc;
-            "D  D.DBF  no table: BadSchema: the fields are no schema{told}\n"
-        )?;
-        assert_eq!(rt; text.as_slice(), line.as_bytes());
+        let text = told_of_damaged_head(alloc, offset, others)?;
+        assert_told(&rt, alloc, text.as_slice(), words, told)?;
     }
     Ok(())
 }
@@ -149,9 +158,8 @@ fn damaged_fields_are_told_with_their_numbers(rt: HostRuntime) -> Result<(), Fai
 fn damaged_memos_are_told_with_their_places(rt: HostRuntime) -> Result<(), Fail> {
     let alloc = rt.alloc();
     for (cells, dbt_length, told) in DAMAGED_MEMOS {
-        let text = told_with_memos(alloc, noted(alloc, cells)?, dbt_length)?;
-        let line = format!(in alloc; "D  D.DBF  no table: {told}\n")?;
-        assert_eq!(rt; text.as_slice(), line.as_bytes());
+        let text = told_of_cells(alloc, cells, dbt_length)?;
+        assert_told(&rt, alloc, text.as_slice(), "D  D.DBF  no table: ", told)?;
     }
     Ok(())
 }

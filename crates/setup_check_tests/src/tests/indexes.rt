@@ -151,18 +151,41 @@ const DAMAGED_INDEXES: [(usize, usize, &[u8], &str); 23] = [
     ),
 ];
 
+// So many bytes of the file of an index of two leaves, with others in place of those at an offset.
+fn damaged_index(
+    alloc: Global,
+    length: usize,
+    offset: usize,
+    others: &[u8],
+) -> Result<Vec<u8>, AllocError> {
+    let mut bytes = two_leaves(alloc)?;
+    bytes.truncate(length);
+    damaged(alloc, bytes.as_slice(), offset, others)
+}
+
+// What is told of an index of these bytes.
+fn told_of_index(alloc: Global, bytes: &[u8]) -> Result<Vec<u8>, Fail> {
+    told_of(alloc, b"TABLE T T.DBF\nINDEX T D D.NDX\n", b"D.NDX", bytes)
+}
+
+// What is told of an index of two leaves that is damaged so.
+fn told_of_damaged_index(
+    alloc: Global,
+    length: usize,
+    offset: usize,
+    others: &[u8],
+) -> Result<Vec<u8>, Fail> {
+    let bytes = damaged_index(alloc, length, offset, others)?;
+    told_of_index(alloc, bytes.as_slice())
+}
+
 #[test]
 fn damaged_index_files_are_told_with_their_pages(rt: HostRuntime) -> Result<(), Fail> {
     let alloc = rt.alloc();
+    let words = "T  T.DBF  2 records, 0 marked: good\nD  D.NDX  no index: ";
     for (length, offset, others, told) in DAMAGED_INDEXES {
-        let mut bytes = two_leaves(alloc)?;
-        bytes.truncate(length);
-        let bytes = damaged(alloc, bytes.as_slice(), offset, others)?;
-        let text = told_of(alloc, b"TABLE T T.DBF\nINDEX T D D.NDX\n", b"D.NDX", bytes)?;
-        let line = format!(in alloc;
-            "T  T.DBF  2 records, 0 marked: good\nD  D.NDX  no index: {told}\n"
-        )?;
-        assert_eq!(rt; text.as_slice(), line.as_bytes());
+        let text = told_of_damaged_index(alloc, length, offset, others)?;
+        assert_told(&rt, alloc, text.as_slice(), words, told)?;
     }
     Ok(())
 }
@@ -184,16 +207,19 @@ const BAD_EXPRESSIONS: [(&[u8], &str); 6] = [
     ),
 ];
 
+// What is told of an index of this key expression.
+fn told_of_expression(alloc: Global, expression: &[u8]) -> Result<Vec<u8>, Fail> {
+    let bytes = index(alloc, expression, 10, LEAF)?;
+    told_of_index(alloc, bytes.as_slice())
+}
+
 #[test]
 fn bad_key_expressions_are_told(rt: HostRuntime) -> Result<(), Fail> {
     let alloc = rt.alloc();
+    let words = "T  T.DBF  2 records, 0 marked: good\nD  D.NDX  2 keys: no key expression for its table: ";
     for (expression, told) in BAD_EXPRESSIONS {
-        let bytes = index(alloc, expression, 10, LEAF)?;
-        let text = told_of(alloc, b"TABLE T T.DBF\nINDEX T D D.NDX\n", b"D.NDX", bytes)?;
-        let line = format!(in alloc;
-            "T  T.DBF  2 records, 0 marked: good\nD  D.NDX  2 keys: no key expression for its table: {told}\n"
-        )?;
-        assert_eq!(rt; text.as_slice(), line.as_bytes());
+        let text = told_of_expression(alloc, expression)?;
+        assert_told(&rt, alloc, text.as_slice(), words, told)?;
     }
     Ok(())
 }

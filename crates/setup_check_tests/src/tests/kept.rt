@@ -2,6 +2,7 @@
 
 use setup_check::kept_files_text;
 use station_lines::parse_setup;
+use std::alloc::Global;
 use std::test::*;
 
 const NAMED: &[u8] = b"TABLE staff staff.dbf STAFF.DBT
@@ -17,11 +18,15 @@ notes.dbt stays as it is where new files go into its folder: the new memo file i
 by_name.ndx stays as it is where new files go into its folder: the new index is BYNAME.NDX
 ";
 
+// What is told of the files of a setup.
+fn told_of_kept(alloc: Global, setup: &[u8]) -> Result<Vec<u8>, Fail> {
+    let entries = parse_setup(alloc, setup)?;
+    Ok(kept_files_text(alloc, &entries)?)
+}
+
 #[test]
 fn files_that_stay_as_they_are_are_told(rt: HostRuntime) -> Result<(), Fail> {
-    let alloc = rt.alloc();
-    let entries = parse_setup(alloc, NAMED)?;
-    let text = kept_files_text(alloc, &entries)?;
+    let text = told_of_kept(rt.alloc(), NAMED)?;
     assert_eq!(rt; text.as_slice(), STAYING);
     Ok(())
 }

@@ -1,10 +1,10 @@
 //! Days that are open in the folders of a setup's tables.
 
-use byte_io::{Bytes, Failures};
-use folders::{MemorySource, NamedFile};
+use crate::tests::source_of;
+use folders::MemorySource;
 use setup_check::open_days_text;
 use station_lines::parse_setup;
-use std::alloc::{AllocError, Global};
+use std::alloc::Global;
 use std::test::*;
 
 const SETUP: &[u8] = b"TABLE A A.DBF
@@ -47,37 +47,28 @@ changed/STATIONS.LOG: no log of a day, or a damaged one
 torn/STATIONS.LOG: a day is open, 0 commands
 ";
 
-fn logs(alloc: Global) -> Result<MemorySource, AllocError> {
-    let mut files = Vec::new(alloc);
-    for (name, bytes) in LOGS {
-        files.push(NamedFile {
-            name: Bytes::from_slice(alloc, name)?,
-            bytes: Bytes::from_slice(alloc, bytes)?,
-        })?;
-    }
-    Ok(MemorySource {
-        files,
-        loads: u64::MAX,
-        failures: Failures::none(),
-    })
+// What is told of the days of a setup of these files.
+fn told_of_days(alloc: Global, source: &mut MemorySource, setup: &[u8]) -> Result<Vec<u8>, Fail> {
+    let entries = parse_setup(alloc, setup)?;
+    Ok(open_days_text(alloc, source, &entries)?)
+}
+
+// The same of the logs, of which so many loads come to the file.
+fn told_of_logs(alloc: Global, loads: u64, setup: &[u8]) -> Result<Vec<u8>, Fail> {
+    let mut source = source_of(alloc, &LOGS, loads)?;
+    told_of_days(alloc, &mut source, setup)
 }
 
 #[test]
 fn open_days_are_told_once_a_folder(rt: HostRuntime) -> Result<(), Fail> {
-    let alloc = rt.alloc();
-    let entries = parse_setup(alloc, SETUP)?;
-    let text = open_days_text(alloc, &mut logs(alloc)?, &entries)?;
+    let text = told_of_logs(rt.alloc(), u64::MAX, SETUP)?;
     assert_eq!(rt; text.as_slice(), TOLD);
     Ok(())
 }
 
 #[test]
 fn a_log_that_is_not_loaded_is_not_told(rt: HostRuntime) -> Result<(), Fail> {
-    let alloc = rt.alloc();
-    let entries = parse_setup(alloc, b"TABLE A A.DBF\n")?;
-    let mut source = logs(alloc)?;
-    source.loads = 0;
-    let text = open_days_text(alloc, &mut source, &entries)?;
+    let text = told_of_logs(rt.alloc(), 0, b"TABLE A A.DBF\n")?;
     assert!(rt; text.is_empty());
     Ok(())
 }

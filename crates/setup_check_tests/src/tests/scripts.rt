@@ -1,10 +1,10 @@
 //! Scripts whose lines are told, and bad lines of setups.
 
-use byte_io::{Bytes, Failures};
-use folders::{MemorySource, NamedFile};
-use setup_check::{BadLinesTold, bad_setup_text, look_at_all, scripts_text};
+use crate::tests::source_of;
+use folders::MemorySource;
+use setup_check::{BadLinesTold, Looked, bad_setup_text, look_at_all, scripts_text};
 use station_lines::{SetupEntry, parse_setup};
-use std::alloc::Global;
+use std::alloc::{AllocError, Global};
 use std::test::*;
 
 // A script whose lines are good: two commands, a remark, a blank line and DISPLAY STATUS.
@@ -45,80 +45,97 @@ EMPTY.PRG: 0 lines: good
 BLANK.PRG: 1 lines: good
 ";
 
-fn source(alloc: Global) -> Result<MemorySource, Fail> {
-    let contents: [(&[u8], &[u8]); 4] = [
-        (b"GOOD.PRG", GOOD),
-        (b"BAD.PRG", BAD),
-        (b"EMPTY.PRG", b""),
-        (b"BLANK.PRG", BLANK),
-    ];
-    let mut files = Vec::new(alloc);
-    for (name, bytes) in contents {
-        files.push(NamedFile {
-            name: Bytes::from_slice(alloc, name)?,
-            bytes: Bytes::from_slice(alloc, bytes)?,
-        })?;
-    }
-    Ok(MemorySource {
-        files,
-        loads: 9,
-        failures: Failures::none(),
-    })
-}
+const SCRIPTS: [(&[u8], &[u8]); 4] = [
+    (b"GOOD.PRG", GOOD),
+    (b"BAD.PRG", BAD),
+    (b"EMPTY.PRG", b""),
+    (b"BLANK.PRG", BLANK),
+];
 
-// What is said of the scripts of a setup.
-fn text_of_scripts(
+// What is said of the scripts among entries that were looked at.
+fn text_of_looked(
     alloc: Global,
-    source: &mut MemorySource,
     entries: &[SetupEntry],
+    looked: &Looked,
     told: BadLinesTold,
 ) -> Result<Vec<u8>, Fail> {
-    let looked = look_at_all(alloc, source, entries)?;
     if looked.reads.len() != entries.len() {
         return Err("not each entry was looked at".into());
     }
     Ok(scripts_text(alloc, entries, &looked.reads, told)?)
 }
 
+// What is said of the scripts among the entries of a setup.
+fn text_of_entries(
+    alloc: Global,
+    source: &mut MemorySource,
+    entries: &[SetupEntry],
+    told: BadLinesTold,
+) -> Result<Vec<u8>, Fail> {
+    let looked = look_at_all(alloc, source, entries)?;
+    text_of_looked(alloc, entries, &looked, told)
+}
+
+// What is said of the scripts of a setup of these files.
+fn text_of_setup(
+    alloc: Global,
+    source: &mut MemorySource,
+    setup: &[u8],
+    told: BadLinesTold,
+) -> Result<Vec<u8>, Fail> {
+    let entries = parse_setup(alloc, setup)?;
+    text_of_entries(alloc, source, &entries, told)
+}
+
+// What is said of the scripts.
+fn text_of_scripts(alloc: Global, told: BadLinesTold) -> Result<Vec<u8>, Fail> {
+    let mut source = source_of(alloc, &SCRIPTS, 9)?;
+    text_of_setup(alloc, &mut source, SETUP, told)
+}
+
 #[test]
 fn bad_lines_of_scripts_are_told(rt: HostRuntime) -> Result<(), Fail> {
-    let alloc = rt.alloc();
     let cases: [(BadLinesTold, &[u8]); 2] = [
         (BadLinesTold::First, FIRST),
         (BadLinesTold::Each, EACH),
     ];
-    let entries = parse_setup(alloc, SETUP)?;
     for (told, wanted) in cases {
-        let text = text_of_scripts(alloc, &mut source(alloc)?, &entries, told)?;
+        let text = text_of_scripts(rt.alloc(), told)?;
         assert_eq!(rt; text.as_slice(), wanted);
     }
     Ok(())
 }
 
-// A line of 300 letters is shown by its first 200.
-#[test]
-fn a_long_line_is_cut(rt: HostRuntime) -> Result<(), Fail> {
-    let alloc = rt.alloc();
+// A line of so many letters.
+fn letters(alloc: Global, count: usize) -> Result<Vec<u8>, AllocError> {
     let mut line = Vec::new(alloc);
-    line.resize(300, b'x')?;
-    let mut files = Vec::new(alloc);
-    files.push(NamedFile {
-        name: Bytes::from_slice(alloc, b"L.PRG")?,
-        bytes: Bytes::from_slice(alloc, line.as_slice())?,
-    })?;
-    let mut long = MemorySource {
-        files,
-        loads: 1,
-        failures: Failures::none(),
-    };
-    let entries = parse_setup(alloc, b"STATION L.PRG")?;
-    let text = text_of_scripts(alloc, &mut long, &entries, BadLinesTold::First)?;
-    let mut wanted = Vec::from_slice(
+    line.resize(count, b'x')?;
+    Ok(line)
+}
+
+// What is said of a script of one line of 300 letters.
+fn text_of_long_line(alloc: Global) -> Result<Vec<u8>, Fail> {
+    let line = letters(alloc, 300)?;
+    let mut source = source_of(alloc, &[(b"L.PRG", line.as_slice())], 1)?;
+    text_of_setup(alloc, &mut source, b"STATION L.PRG", BadLinesTold::First)
+}
+
+// The same, as it is written down.
+fn text_of_200_letters(alloc: Global) -> Result<Vec<u8>, AllocError> {
+    let mut text = Vec::from_slice(
         alloc,
         b"L.PRG: 1 lines, 1 are no command: the first is line 1: ",
     )?;
-    wanted.extend_from_slice(&line[..200])?;
-    wanted.push(b'\n')?;
+    text.extend_from_slice(letters(alloc, 200)?.as_slice())?;
+    text.push(b'\n')?;
+    Ok(text)
+}
+
+// A line of 300 letters is shown by its first 200.
+#[test]
+fn a_long_line_is_cut(rt: HostRuntime) -> Result<(), Fail> {
+    let text = text_of_long_line(rt.alloc())?;
+    let wanted = text_of_200_letters(rt.alloc())?;
     assert_eq!(rt; text.as_slice(), wanted.as_slice());
     Ok(())
 }

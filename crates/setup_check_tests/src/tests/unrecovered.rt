@@ -1,10 +1,8 @@
 //! Folders that are not recovered: the list of a set of new files lies in them.
 
-use crate::tests::files;
-use byte_io::Bytes;
+use crate::tests::{add, files, told_of_setup};
 use folders::NamedFile;
-use setup_check::{findings_text, look_at_all};
-use station_lines::parse_setup;
+use std::alloc::{AllocError, Global};
 use std::process::Abort;
 use std::test::*;
 
@@ -25,20 +23,25 @@ BYNAME  i/S.NDX  the folder is not recovered: start with --out i
 STATION  s/A.PRG  the folder is not recovered: start with --out s
 ";
 
-#[test]
-fn folders_that_are_not_recovered_are_told(rt: HostRuntime) -> Result<(), Fail> {
-    let alloc = rt.alloc();
-    let mut source = files(alloc)?;
+// Adds a list in each of four folders.
+fn add_lists(alloc: Global, files: &mut Vec<NamedFile>) -> Result<(), AllocError> {
     for folder in ["d/", "m/", "i/", "s/"] {
         let list = format!(in alloc; "{folder}{LIST}")?;
-        source.files.push(NamedFile {
-            name: Bytes::from_slice(alloc, list.as_bytes())?,
-            bytes: Bytes::from_slice(alloc, b"T.DBF\n")?,
-        })?;
+        add(alloc, files, list.as_bytes(), b"T.DBF\n")?;
     }
-    let entries = parse_setup(alloc, SETUP)?;
-    let looked = look_at_all(alloc, &mut source, &entries)?;
-    let text = findings_text(alloc, &entries, &looked.findings)?;
+    Ok(())
+}
+
+// What is told of the setup with these lists.
+fn told_beside_lists(alloc: Global) -> Result<Vec<u8>, Fail> {
+    let mut source = files(alloc)?;
+    add_lists(alloc, &mut source.files)?;
+    told_of_setup(alloc, &mut source, SETUP)
+}
+
+#[test]
+fn folders_that_are_not_recovered_are_told(rt: HostRuntime) -> Result<(), Fail> {
+    let text = told_beside_lists(rt.alloc())?;
     assert_eq!(rt; text.as_slice(), TOLD.as_bytes());
     Ok(())
 }
