@@ -105,9 +105,24 @@ const WRITTEN: [(&[u8], &[u8]); 5] = [
 fn add_made(alloc: Global, files: &mut Vec<NamedFile>) -> Result<(), AllocError> {
     let by_part: &[u8] = b"SUBSTR(NAME,1,4)";
     add(alloc, files, b"S.DBF", bob_and_ada(alloc)?.as_slice())?;
-    add(alloc, files, b"S.NDX", index(alloc, b"NAME", 10, LEAF)?.as_slice())?;
-    add(alloc, files, b"TOWN.NDX", index(alloc, b"TOWN", 10, LEAF)?.as_slice())?;
-    add(alloc, files, b"PART.NDX", index(alloc, by_part, 10, LEAF)?.as_slice())?;
+    add(
+        alloc,
+        files,
+        b"S.NDX",
+        index(alloc, b"NAME", 10, LEAF)?.as_slice(),
+    )?;
+    add(
+        alloc,
+        files,
+        b"TOWN.NDX",
+        index(alloc, b"TOWN", 10, LEAF)?.as_slice(),
+    )?;
+    add(
+        alloc,
+        files,
+        b"PART.NDX",
+        index(alloc, by_part, 10, LEAF)?.as_slice(),
+    )?;
     add(alloc, files, b"NOTE.DBT", memos(alloc)?.as_slice())?;
     Ok(())
 }
@@ -129,11 +144,7 @@ fn told_of_entries(
 }
 
 // What is told of a setup of these files.
-fn told_of_setup(
-    alloc: Global,
-    source: &mut MemorySource,
-    setup: &[u8],
-) -> Result<Vec<u8>, Fail> {
+fn told_of_setup(alloc: Global, source: &mut MemorySource, setup: &[u8]) -> Result<Vec<u8>, Fail> {
     let entries = parse_setup(alloc, setup)?;
     Ok(told_of_entries(alloc, source, &entries)?)
 }
@@ -300,10 +311,7 @@ fn beside(alloc: Global, leaf: &[u8]) -> Result<MemorySource, AllocError> {
     let by_name = index(alloc, b"NAME", 10, leaf)?;
     source_of(
         alloc,
-        &[
-            (b"S.DBF", table.as_slice()),
-            (b"X.NDX", by_name.as_slice()),
-        ],
+        &[(b"S.DBF", table.as_slice()), (b"X.NDX", by_name.as_slice())],
         2,
     )
 }

@@ -216,7 +216,8 @@ fn told_of_expression(alloc: Global, expression: &[u8]) -> Result<Vec<u8>, Fail>
 #[test]
 fn bad_key_expressions_are_told(rt: HostRuntime) -> Result<(), Fail> {
     let alloc = rt.alloc();
-    let words = "T  T.DBF  2 records, 0 marked: good\nD  D.NDX  2 keys: no key expression for its table: ";
+    let words =
+        "T  T.DBF  2 records, 0 marked: good\nD  D.NDX  2 keys: no key expression for its table: ";
     for (expression, told) in BAD_EXPRESSIONS {
         let text = told_of_expression(alloc, expression)?;
         assert_told(&rt, alloc, text.as_slice(), words, told)?;

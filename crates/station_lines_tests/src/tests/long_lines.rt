@@ -134,7 +134,13 @@ fn is_long_name_kept(alloc: Global, count: usize) -> Result<bool, Fail> {
     let word = run_of(alloc, b'x', count)?;
     let name = run_of(alloc, b'X', count)?;
     let line = joined(alloc, b"USE ", word.as_slice(), b" EXCLUSIVE")?;
-    are_kept(alloc, line.as_slice(), Keeps::Use(true), name.as_slice(), b"")
+    are_kept(
+        alloc,
+        line.as_slice(),
+        Keeps::Use(true),
+        name.as_slice(),
+        b"",
+    )
 }
 
 #[test]

@@ -419,15 +419,7 @@ fn values_of_each_kind(rt: HostRuntime) -> Result<(), Fail> {
 fn odd_bytes_are_bytes(rt: HostRuntime) -> Result<(), Fail> {
     let alloc = rt.alloc();
     let text: &[u8] = b"\0\x1a\x80\xff\r";
-    assert!(rt;
-        are_kept(
-            alloc,
-            b"SEEK \"\0\x1a\x80\xff\r\"",
-            Keeps::Seek,
-            b"",
-            text
-        )?
-    );
+    assert!(rt; are_kept(alloc, b"SEEK \"\0\x1a\x80\xff\r\"", Keeps::Seek, b"", text)?);
     assert!(rt; are_bad(alloc, b"SEEK\0 'A'\nUSE \x80T\nPACK\r")?);
     Ok(())
 }
