@@ -54,10 +54,30 @@ fn table_with(
     records: &[&[u8]],
 ) -> Result<GrowingTable, Fail> {
     let mut table = table_of(alloc, fields)?;
-    for record in records {
-        add(&mut table, record)?;
-    }
+    add_all(&mut table, records)?;
     Ok(table.into_growing())
+}
+
+// Adds these records, each its flag and its cells.
+fn add_all(table: &mut TableData, records: &[&[u8]]) -> Result<(), Fail> {
+    for record in records {
+        add(table, record)?;
+    }
+    Ok(())
+}
+
+// A table of the fields N and NOTE with two records, each its flag and its cells, and with a memo for each.
+fn notes(alloc: Global, records: [&[u8]; 2], memos: [&[u8]; 2]) -> Result<GrowingTable, Fail> {
+    let mut table = table_of(alloc, &[(b"N", NUMBER, 2, 0), (b"NOTE", MEMO, 10, 0)])?;
+    add_all(&mut table, &records)?;
+    set_memos(&mut table, memos)?;
+    Ok(table.into_growing())
+}
+
+// Gives two records a memo each.
+fn set_memos(table: &mut TableData, memos: [&[u8]; 2]) -> Result<(), Fail> {
+    set_memo(table, 1, 1, memos[0])?;
+    set_memo(table, 2, 1, memos[1])
 }
 
 // How many changes are told, and the lines that are written of them.
@@ -76,13 +96,27 @@ fn is_told(changes: usize, sink: &MemorySink, count: usize, text: &str) -> bool 
     changes == count && sink.bytes.as_slice() == text.as_bytes()
 }
 
-// What is told of two tables that are made of these fields and records.
-fn diff_of(
+// Whether this many changes between two tables are told, with these lines.
+fn are_told(
+    alloc: Global,
+    old_table: &GrowingTable,
+    new_table: &GrowingTable,
+    count: usize,
+    text: &str,
+) -> Result<bool, Fail> {
+    let (changes, sink) = diff(alloc, old_table, new_table)?;
+    Ok(is_told(changes, &sink, count, text))
+}
+
+// The same of two tables that are made of these fields and records.
+fn are_told_of(
     alloc: Global,
     old: (&[Described], &[&[u8]]),
     new: (&[Described], &[&[u8]]),
-) -> Result<(usize, MemorySink), Fail> {
+    count: usize,
+    text: &str,
+) -> Result<bool, Fail> {
     let old_table = table_with(alloc, old.0, old.1)?;
     let new_table = table_with(alloc, new.0, new.1)?;
-    diff(alloc, &old_table, &new_table)
+    are_told(alloc, &old_table, &new_table, count, text)
 }

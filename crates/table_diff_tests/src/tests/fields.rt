@@ -79,8 +79,7 @@ fn is_case_told(
     count: usize,
     text: &str,
 ) -> Result<bool, Fail> {
-    let (changes, sink) = diff_of(alloc, (&OLD, &OLD_RECORDS), (fields, records))?;
-    Ok(is_told(changes, &sink, count, text))
+    are_told_of(alloc, (&OLD, &OLD_RECORDS), (fields, records), count, text)
 }
 
 #[test]

@@ -146,16 +146,6 @@ fn records_are_matched_by_their_keys(rt: HostRuntime) -> Result<(), Fail> {
     Ok(())
 }
 
-// Two records with a memo each.
-fn notes(alloc: Global, records: [&[u8]; 2], memos: [&[u8]; 2]) -> Result<GrowingTable, Fail> {
-    let mut table = table_of(alloc, &[(b"N", NUMBER, 2, 0), (b"NOTE", MEMO, 10, 0)])?;
-    add(&mut table, records[0])?;
-    add(&mut table, records[1])?;
-    set_memo(&mut table, 1, 1, memos[0])?;
-    set_memo(&mut table, 2, 1, memos[1])?;
-    Ok(table.into_growing())
-}
-
 // Whether what has changed of notes, the second before the first now, is told so.
 fn are_notes_told(
     alloc: Global,
@@ -188,30 +178,46 @@ fn memos_are_compared_of_records_with_one_key(rt: HostRuntime) -> Result<(), Fai
 
 const TAKEN: &[u8] = b"record 1 marked as deleted\nrecord 2 added: N 3\n";
 
+// Whether the answer says whether a sink took all of the text that takes this many bytes.
+fn is_answered(answer: Result<usize, TextFault>, taken: usize) -> bool {
+    match answer {
+        Ok(count) => count == 2 && taken == TAKEN.len(),
+        Err(fault) => matches!(fault, TextFault::Sink) && taken < TAKEN.len(),
+    }
+}
+
 // Whether a sink that takes this many bytes of the text, one each time, has them, and the answer says whether it took all.
-fn has_front(alloc: Global, taken: usize) -> Result<bool, Fail> {
-    let old_table = table_with(alloc, &[(b"N", NUMBER, 1, 0)], &[b" 1"])?;
-    let new_table = table_with(alloc, &[(b"N", NUMBER, 1, 0)], &[b"*1", b" 3"])?;
+fn has_front(
+    alloc: Global,
+    old_table: &GrowingTable,
+    new_table: &GrowingTable,
+    taken: usize,
+) -> Result<bool, Fail> {
     let old_key = KeyExpr::parse(alloc, b"STR(N,1)", old_table.schema())?;
     let new_key = KeyExpr::parse(alloc, b"STR(N,1)", new_table.schema())?;
     let mut sink = LimitedSink::new(alloc, 1, taken as u64);
-    let answered = match write_diff_by_key(
-        alloc, &mut sink, &old_table, &new_table, &old_key, &new_key,
-    ) {
-        Ok(count) => count == 2 && taken == TAKEN.len(),
-        Err(fault) => matches!(fault, TextFault::Sink) && taken < TAKEN.len(),
-    };
-    Ok(
-        answered
-            && TAKEN.starts_with(sink.taken.bytes.as_slice())
-            && sink.taken.bytes.len() == taken,
-    )
+    let answer = write_diff_by_key(alloc, &mut sink, old_table, new_table, &old_key, &new_key);
+    let is_front = TAKEN.starts_with(sink.taken.bytes.as_slice());
+    Ok(is_answered(answer, taken) && is_front && sink.taken.bytes.len() == taken)
+}
+
+// Asserts it of each sink that takes less than the text, or just the text.
+fn assert_fronts(
+    rt: &impl Abort,
+    alloc: Global,
+    old_table: &GrowingTable,
+    new_table: &GrowingTable,
+) -> Result<(), Fail> {
+    for taken in 0..TAKEN.len() + 1 {
+        assert!(rt; has_front(alloc, old_table, new_table, taken)?);
+    }
+    Ok(())
 }
 
 #[test]
 fn failing_sink_has_the_front_by_key(rt: HostRuntime) -> Result<(), Fail> {
-    for taken in 0..TAKEN.len() + 1 {
-        assert!(rt; has_front(rt.alloc(), taken)?);
-    }
-    Ok(())
+    let alloc = rt.alloc();
+    let old_table = table_with(alloc, &[(b"N", NUMBER, 1, 0)], &[b" 1"])?;
+    let new_table = table_with(alloc, &[(b"N", NUMBER, 1, 0)], &[b"*1", b" 3"])?;
+    assert_fronts(&rt, alloc, &old_table, &new_table)
 }

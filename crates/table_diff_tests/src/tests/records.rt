@@ -97,8 +97,7 @@ record 2: NAME \"BOB \\\"B\\\"\" -> \"BOB\\\\\\x00\\xc9\"
 
 // Whether a case is told so.
 fn is_case_told(alloc: Global, records: &[&[u8]], count: usize, text: &str) -> Result<bool, Fail> {
-    let (changes, sink) = diff_of(alloc, (&MEMBERS, &OLD), (&MEMBERS, records))?;
-    Ok(is_told(changes, &sink, count, text))
+    are_told_of(alloc, (&MEMBERS, &OLD), (&MEMBERS, records), count, text)
 }
 
 #[test]
@@ -109,15 +108,8 @@ fn changes_of_records_are_told(rt: HostRuntime) -> Result<(), Fail> {
     Ok(())
 }
 
-// Two records with a memo each. What stands in the memos' cells has no meaning.
-fn notes(alloc: Global, first: &[u8], second: &[u8]) -> Result<GrowingTable, Fail> {
-    let mut table = table_of(alloc, &[(b"N", NUMBER, 2, 0), (b"NOTE", MEMO, 10, 0)])?;
-    add(&mut table, b"  1         9")?;
-    add(&mut table, b"  2          ")?;
-    set_memo(&mut table, 1, 1, first)?;
-    set_memo(&mut table, 2, 1, second)?;
-    Ok(table.into_growing())
-}
+// The records of the notes. What stands in the memos' cells has no meaning.
+const NUMBERED: [&[u8]; 2] = [b"  1         9", b"  2          "];
 
 // Whether what has changed between two such tables is told so.
 fn are_notes_told(
@@ -127,10 +119,9 @@ fn are_notes_told(
     count: usize,
     text: &str,
 ) -> Result<bool, Fail> {
-    let old_table = notes(alloc, old[0], old[1])?;
-    let new_table = notes(alloc, new[0], new[1])?;
-    let (changes, sink) = diff(alloc, &old_table, &new_table)?;
-    Ok(is_told(changes, &sink, count, text))
+    let old_table = notes(alloc, NUMBERED, old)?;
+    let new_table = notes(alloc, NUMBERED, new)?;
+    are_told(alloc, &old_table, &new_table, count, text)
 }
 
 // The old and the new memos, how many changes are told, and their lines.
