@@ -247,11 +247,22 @@ fn judged(alloc: Global, setup: &[u8]) -> Result<(Vec<u8>, bool), Fail> {
     judged_setup(alloc, &mut source, setup)
 }
 
+// Asserts that this is told of a setup of the files, and whether all is good.
+fn assert_judged(
+    rt: &impl Abort,
+    alloc: Global,
+    (setup, told, good): (&str, &str, bool),
+) -> Result<(), Fail> {
+    let (text, is_good) = judged(alloc, setup.as_bytes())?;
+    assert_eq!(rt; text.as_slice(), told.as_bytes());
+    assert!(rt; is_good == good);
+    Ok(())
+}
+
 #[test]
 fn each_file_of_a_setup_is_told(rt: HostRuntime) -> Result<(), Fail> {
-    for (setup, told, good) in CASES {
-        let (text, is_good) = judged(rt.alloc(), setup.as_bytes())?;
-        assert_eq!(rt; (text.as_slice(), is_good), (told.as_bytes(), good));
+    for case in CASES {
+        assert_judged(&rt, rt.alloc(), case)?;
     }
     Ok(())
 }
