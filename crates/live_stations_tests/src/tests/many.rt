@@ -98,35 +98,7 @@ fn are_answered(alloc: Global, day: &LeftDay, times: [u64; 2]) -> Result<bool, F
     Ok(first && second && day.count() == Some(count) && day.all_heard)
 }
 
-// A day of two clerks who type this, of whom the first reads once this was shown.
-fn live_of<R: Runtime + Files<File = File> + AllocGlobal + Threads + Wait + Sync>(
-    rt: &R,
-    first: &[u8],
-    second: &[Turn<'_>],
-    waits: Option<(usize, u64)>,
-) -> Result<LeftDay, Fail> {
-    let clerks = [
-        Clerk {
-            turns: &[Turn {
-                station: 1,
-                answers: 0,
-                text: first,
-            }],
-            then: Then::Ends,
-            waits,
-            room: Some(ALL),
-        },
-        Clerk {
-            turns: second,
-            then: Then::Ends,
-            waits: None,
-            room: Some(ALL),
-        },
-    ];
-    live(rt, "many", &clerks)
-}
-
-// The same of clerks who type their lines so often.
+// A day of two clerks who type their lines so often, of whom the first reads once this was shown.
 fn live_many<R: Runtime + Files<File = File> + AllocGlobal + Threads + Wait + Sync>(
     rt: &R,
     times: [u64; 2],
@@ -134,7 +106,25 @@ fn live_many<R: Runtime + Files<File = File> + AllocGlobal + Threads + Wait + Sy
 ) -> Result<LeftDay, Fail> {
     let first = repeated(rt.alloc(), b"USE T\n", LINES[0], times[0])?;
     let second = turns_of(rt.alloc(), 2, LINES[1], times[1])?;
-    live_of(rt, first.as_slice(), second.as_slice(), waits)
+    let clerks = [
+        Clerk {
+            turns: &[Turn {
+                station: 1,
+                answers: 0,
+                text: first.as_slice(),
+            }],
+            then: Then::Ends,
+            waits,
+            room: Some(ALL),
+        },
+        Clerk {
+            turns: second.as_slice(),
+            then: Then::Ends,
+            waits: None,
+            room: Some(ALL),
+        },
+    ];
+    live(rt, "many", &clerks)
 }
 
 // Whether two clerks are answered all their lines, of whom the first reads once this was shown.
