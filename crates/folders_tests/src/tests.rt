@@ -298,8 +298,9 @@ fn next_start_puts_the_other_file_in_place(rt: HostRuntime) -> Result<(), Fail> 
     let alloc = rt.alloc();
     make_folder(&rt, "half")?;
     fs::write(&rt, "half/T.DBF", b"old")?;
+    let files = two_files(&rt, alloc, "half")?;
     fs::create_dir(&rt, "half/T.DBT")?;
-    let ended = put_one_in_place(&rt, alloc, two_files(&rt, alloc, "half")?)?;
+    let ended = put_one_in_place(&rt, alloc, files)?;
     assert_eq!(rt; ended, Err(FinishFault::Unfinished));
     assert!(rt; is_read(&rt, alloc, b"half/T.DBF", b"first")?);
     assert!(rt; is_read(&rt, alloc, b"half/T.DBT", b"second")?);
