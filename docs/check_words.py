@@ -1,12 +1,12 @@
 #!/usr/bin/env python3
 """Looks at the words of the pages: lengths of lines and sentences, and whether links lead somewhere; and at the examples of
-calls, whether a test has their lines.
+calls, whether a caller has their lines.
 
     python3 docs/check_words.py
 
 README and the manual have sentences of 40 words at most; README has lines of 120 columns at most, the other pages of 200.
 A link to a file leads to one that is there, and one to a heading to one that its page has. The lines of an example stand in
-the file of tests that it names, in that order. The status is 0 where all is so.
+another source, in that order. The status is 0 where all is so.
 """
 
 import pathlib
@@ -15,6 +15,7 @@ import sys
 
 TOP = pathlib.Path(__file__).resolve().parent.parent
 MOST_WORDS, README_COLUMNS, COLUMNS = 40, 120, 200
+SOURCES = sorted(TOP.glob("crates/*/src/**/*.rt"))
 faults = []
 
 
@@ -89,20 +90,24 @@ def check_page(path):
             faults.append(f"{name}: no heading for the link {link}")
 
 
+def has_lines(path, lines):
+    """Looks whether a source has these lines, in this order."""
+    own = (line.strip() for line in path.read_text().splitlines())
+    return all(any(line == other for other in own) for line in lines)
+
+
 def check_examples(path):
-    """Looks at the examples in a source's documentation."""
+    """Looks at the examples in a source's documentation: another source has their lines."""
     text = re.sub(r"^ *///? ?", "", path.read_text(), flags=re.M)
-    for crate, file, example in re.findall(r"As a test has it \(`(\w+)`, `([\w/.]+)`\):\n\n```text\n(.*?)```", text, flags=re.S):
-        tests = iter((TOP / "crates" / crate / file).read_text().splitlines())
-        for line in example.splitlines():
-            if not any(line.strip() == other.strip() for other in tests):
-                faults.append(f"{path.relative_to(TOP)}: no test has the line {line.strip()}")
-                break
+    for example in re.findall(r"As a caller has it:\n\n```text\n(.*?)```", text, flags=re.S):
+        lines = [line.strip() for line in example.splitlines()]
+        if not any(other != path and has_lines(other, lines) for other in SOURCES):
+            faults.append(f"{path.relative_to(TOP)}: no other source has the lines of the example {lines[0]}")
 
 
 for each in pages():
     check_page(each)
-for each in sorted(TOP.glob("crates/*/src/**/*.rt")):
+for each in SOURCES:
     check_examples(each)
 for fault in faults:
     print(f"docs/check: {fault}", file=sys.stderr)

@@ -100,11 +100,11 @@ fn audit_entry<'a>(
 /// taken only for the line of an entry of one of the stations, whose command's line means a command: an empty text holds,
 /// and where another line is first the fault is [`AuditFault::NoEntry`].
 ///
-/// As a test has it (`audit_tests`, `src/tests/sample.rt`):
+/// As a caller has it:
 ///
 /// ```text
-/// let mut catalogue = open(alloc, records, b"")?;
-/// Ok(audit(alloc, &mut catalogue, text))
+/// let mut catalogue = open_loaded(alloc, loaded, reindex)?;
+/// audit(alloc, &mut catalogue, entries)?;
 /// ```
 pub fn audit(alloc: Global, catalogue: &mut Catalogue, text: &[u8]) -> Result<u64, AuditFault>
     requires at_opening { catalogue.old.journal ≡ [] }

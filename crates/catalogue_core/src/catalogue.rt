@@ -95,11 +95,10 @@ impl Catalogue {
     /// `reindex` that is not asked, and the order is built from the records. `NoMemory` comes only where all tests
     /// before it pass.
     ///
-    /// As a test has it (`audit_tests`, `src/tests/sample.rt`):
+    /// As a caller has it:
     ///
     /// ```text
-    /// let sources = vec![in alloc; table(alloc, records, note)?]?;
-    /// Ok(Catalogue::open(alloc, sources, 2, false)?)
+    /// Ok(Catalogue::open(alloc, tables, stations, reindex)?)
     /// ```
     pub fn open(
         alloc: Global,
@@ -138,7 +137,7 @@ impl Catalogue {
     /// comes from the plan of a command that no test before it refuses, or from the journal's entry, which a refused
     /// command has too. After `JournalFull` and `NoMemory` the catalogue is as it was.
     ///
-    /// As a test has it (`shared_catalogue_tests`, `src/tests/asked.rt`):
+    /// As a caller has it:
     ///
     /// ```text
     /// if station < 1 || station > catalogue.station_count() {

@@ -24,7 +24,7 @@ use std::marker::Model;
 /// A set of new files for a folder. They are written one after the other under temporary names, and count from the
 /// moment on when [`FileSet::finish`] puts the set in place.
 ///
-/// As a test has it (`files_in_place_tests`, `src/new_files.rt`):
+/// As a caller has it:
 ///
 /// ```text
 /// set.begin(b"A")?;

@@ -99,7 +99,7 @@ impl KeyExpr {
     /// growth that was refused, so never for a text over 488 bytes.
     #[tactic(auto, using(crate::proofs::Parsing::memory_only, crate::proofs::Parsing::one_expr, crate::proofs::ParseLaws::fault_none))]
     ///
-    /// As a test has it (`key_expr_tests`, `src/tests/keys.rt`):
+    /// As a caller has it:
     ///
     /// ```text
     /// let schema = people(alloc)?;

@@ -56,7 +56,7 @@ pub fn read_ndx_at(alloc: Global, bytes: &[u8]) -> Result<NdxFile, BadIndex>
 /// answer, but for the header page's faults, which are found before any memory is taken. Pages that the
 /// walk does not reach, and keys and record numbers of inner pages, are never looked at.
 ///
-/// As a test has it (`ndx_index_tests`, `src/tests/writings.rt`):
+/// As a caller has it:
 ///
 /// ```text
 /// let read = read_ndx(alloc, &written(alloc, &index, len)?)?;

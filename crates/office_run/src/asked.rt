@@ -167,11 +167,11 @@ pub fn serve_asked<S: Source, F: Folder, G: Gate + Sync, R: Threads + Wait + Syn
 
 /// A whole run of the setup of a path as [`serve_asked`] makes it, without the journal's file.
 ///
-/// As a test has it (`office_run_tests`, `src/tests.rt`):
+/// As a caller has it:
 ///
 /// ```text
 /// let setup = Bytes::from_slice(alloc, SETUP)?;
-/// let served = serve(rt, alloc, &setup, today, reindex, source, folder, &OpenGate);
+/// return Ok(serve(rt, alloc, &setup, today, false, source, folder, &OpenGate));
 /// ```
 pub fn serve<S: Source, F: Folder, G: Gate + Sync, R: Threads + Wait + Sync>(
     rt: &R,

@@ -68,13 +68,13 @@ impl<J: Naming> Shared<J> {
     /// A `Stop` is the catalogue's, and then seat, board and catalogue are as they were: `JournalFull` says that the
     /// journal had `MAX_ENTRIES` entries.
     ///
-    /// As a test has it (`shared_catalogue_tests`, `src/tests/shared.rt`):
+    /// As a caller has it:
     ///
     /// ```text
     /// let Some(seat) = seats.get_mut((station as usize).wrapping_sub(1)) else {
     ///     return Err("there is no such seat".into());
     /// };
-    /// let command = command_of(alloc, asked, name)?;
+    /// let command = command_of(alloc, line)?;
     /// let answer = shared.perform(alloc, rt, seat, &command)?;
     /// ```
     pub fn perform<R: Wait>(

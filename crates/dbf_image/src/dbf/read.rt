@@ -206,10 +206,10 @@ pub fn read_table_at(alloc: Global, dbf: Bytes, dbt: Option<Bytes>) -> Result<Ta
 
 /// Reads a table as [`read_table_at`] does, and says of a fault only what it is.
 ///
-/// As a test has it (`dbf_image_tests`, `src/tests.rt`):
+/// As a caller has it:
 ///
 /// ```text
-/// read_table(alloc, Bytes::from_slice(alloc, dbf)?, dbt)
+/// let table = read_table(alloc, dbf, memos)?;
 /// ```
 pub fn read_table(alloc: Global, dbf: Bytes, dbt: Option<Bytes>) -> Result<TableData, ImageFault>
     // What is read is the files' table.

@@ -31,16 +31,15 @@ impl Table {
     /// Delete and Recall `EndOfFile`; of Pack none. All of them are tested before memory is taken, so
     /// `NoMemory` comes only for an edit that is not refused.
     ///
-    /// As a test has it (`table_core_tests`, `src/tests.rt`):
+    /// As a caller has it:
     ///
     /// ```text
     /// match table.plan(alloc, cursor, edit) {
     ///     Ok(planned) => {
     ///         table.carry_out(planned, cursor);
-    ///         Ok(0)
+    ///         Ok(has_order(table, 1, numbers))
     ///     }
-    ///     Err(TableFault::Refused(refusal)) => Ok(refusal.code()),
-    ///     Err(TableFault::NoMemory) => Err("out of memory".into()),
+    ///     Err(fault) => refused(fault == TableFault::NoMemory),
     /// }
     /// ```
     pub fn plan(
