@@ -1,3 +1,0 @@
-mod demo;
-mod refusals;
-mod texts;

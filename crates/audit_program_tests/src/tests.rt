@@ -1,5 +1,0 @@
-mod audits;
-mod ends;
-mod files;
-mod journals;
-mod places;

@@ -1,3 +1,0 @@
-mod journals;
-mod sample;
-mod texts;

@@ -1,2 +1,0 @@
-mod sums;
-mod whole_text;

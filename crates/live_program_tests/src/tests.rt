@@ -1,5 +1,0 @@
-mod crashes;
-mod day;
-mod ends;
-mod groups;
-mod lines;

@@ -1,8 +1,0 @@
-use Rattle.std.proofs.Common.{◌≡◌}
-use Rattle.lock_table_tests.proofs.tests.random.first_difference.Given as goal
-
-abbrev pub invariant-loop-i : goal.invariant-loop-i
-invariant-loop-i l = record {
-  stations : l.locks.stations ≡ 16;
-  tables : l.locks.tables ≡ 3;
-}

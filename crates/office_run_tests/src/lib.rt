@@ -1,6 +1,0 @@
-//! Tests of `office_run` by what it lets other crates call. They are a crate of their own, since the gate proves a crate
-//! with tests twice.
-#![tactic(auto)]
-
-#[cfg(test)]
-mod tests;

@@ -1,0 +1,7 @@
+mod devices;
+mod ends;
+mod faults;
+mod noted;
+mod office;
+mod stations;
+mod system;

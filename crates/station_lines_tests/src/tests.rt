@@ -1,9 +1,0 @@
-mod answer_lines;
-mod bad_lines;
-mod command_lines;
-mod index_on;
-mod journal_lines;
-mod long_lines;
-mod long_setup;
-mod script;
-mod setup;

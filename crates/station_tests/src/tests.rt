@@ -1,0 +1,7 @@
+mod beside;
+mod calls;
+mod journal_lines;
+mod receipts;
+mod sample;
+mod shared;
+mod unsaid;
