@@ -21,7 +21,7 @@ def crates():
         if line:
             name, below = line.split(":")
             named[name] = below.split()
-    for_tests = [name for name in named if name.endswith(("_tests", "_scarce")) or name in ("memory_disk", "sample_files", "scarce", "demo_office")]
+    for_tests = [name for name in named if name.endswith("_tests") or name in ("memory_disk", "sample_files", "scarce", "case_files", "cases")]
     named = {name: below for name, below in named.items() if name not in for_tests}
     return {name: [it for it in below if it in named] for name, below in named.items()}
 
