@@ -17,3 +17,11 @@ pub mod OpeningLaws
 pub mod AnewLaws
 pub mod IndexLaws
 pub mod StatusLaws
+pub mod EditSteps
+pub mod RecordLaws
+pub mod LockedLaws
+pub mod LeftLaws
+pub mod LeftLocks
+pub mod UpdateLaws
+pub mod FitLaws
+pub mod TakenLocks

@@ -9,3 +9,5 @@ pub mod Kept
 pub mod Rooms
 pub mod Planned
 pub mod Status
+pub mod Stays
+pub mod Updates

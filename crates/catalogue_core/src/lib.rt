@@ -7,6 +7,8 @@
 //! that each answer in the journal is the one that its command has there; what is true of every state
 //! (`IsState`, in `specs/State.antt`) is true of it.
 //!
+//! What a lock is for, and what becomes of an update, are laws over whole journals: they stand in `law.rt`.
+//!
 //! Nothing here waits or starts a thread: `shared_catalogue` puts the catalogue under a lock.
 //!
 //! Start reading at `specs/Step.antt`; then `catalogue.rt`, `plan.rt` and `state.rt`.
@@ -19,6 +21,7 @@ mod change;
 mod command;
 mod entry;
 mod kept_table;
+mod law;
 mod names;
 mod numbers;
 mod opening;
@@ -33,6 +36,7 @@ pub use area::MAX_AREAS;
 pub use catalogue::{Catalogue, MAX_ENTRIES, Stop};
 pub use command::{Command, Question};
 pub use entry::Entry;
+pub use law::{a_locked_record_stays, no_update_is_lost};
 pub use names::Names;
 pub use numbers::Numbers;
 pub use opening::{MAX_INDEXES, MAX_STATIONS, MAX_TABLES, OpenFault};

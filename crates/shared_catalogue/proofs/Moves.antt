@@ -9,7 +9,7 @@ use Rattle.shared_catalogue.specs.declared.board.Known.{Known}
 use Rattle.shared_catalogue.specs.declared.board.View.{View}
 use Rattle.shared_catalogue.specs.RowWords.{row_of_words}
 use Rattle.shared_catalogue.specs.StatusRows.{opening_row}
-use Rattle.shared_catalogue.specs.Board.{known_of, with_next, IsPartOf, writer_of, first_view, spent_view, copied_view, answered_view, noting_view, IsViewOf, IsBoard, IsSwapOf, IsLoadOf, IsWriterLoadOf}
+use Rattle.shared_catalogue.specs.Board.{known_of, with_next, IsPartOf, writer_of, first_view, spent_view, copied_view, answered_view, noting_view, told_view, IsViewOf, IsBoard, IsSwapOf, IsLoadOf, IsWriterLoadOf}
 use Rattle.shared_catalogue.proofs.KnownLaws.{part_self, part_none, part_next, part_more}
 use Rattle.shared_catalogue.proofs.RowListLaws.{last_row-push, numbered-push}
 
@@ -78,10 +78,12 @@ loads number v reads cell views h at =
 -- a load by the writer
 pub writer_loads : (number : ℕ) (v : View) → v.writes ≡ true → Turns IsBoard number v (λ x. x) IsWriterLoadOf
 writer_loads number v writes cell views h at =
-    let mine = h.each number v at in (
-      v,
-      record { writer = h.writer; all = h.all; shows = h.shows; each = views_set h.writer h.all views number v (λ j u apart e. h.each j u e) mine },
-      (subst (IsPartOf v.noted) (sym (mine.whole writes).1) mine.noted, refl),
+    let mine = h.each number v at in
+    let whole = mine.whole writes in
+    let own : IsViewOf h.writer h.all number (writer_of v.known) = record { whole = λ _. whole; known = mine.known; noted = part_none h.all } in (
+      writer_of v.known,
+      record { writer = h.writer; all = h.all; shows = h.shows; each = views_set h.writer h.all views number (writer_of v.known) (λ j u apart e. h.each j u e) own },
+      (subst (IsPartOf v.noted) (sym whole.1) mine.noted, refl),
     )
 
 -- a split, which leaves the pass's own view
@@ -108,6 +110,10 @@ takes_in number v other u w becomes cell views h at apart there =
 -- a join into the pass of a seat that was answered
 pub answers : (e : Entry) (number : ℕ) (v : View) (other : ℕ) (u : View) → v.writes ≡ false → Merges IsBoard number v other u (answered_view e v u) spent_view
 answers e number v other u reads = takes_in number v other u (answered_view e v u) (λ writer all mine theirs. reads_of writer all number (answered_view e v u) reads (part_more v.known u.known all mine.known theirs.known) mine.noted)
+
+-- a join into the pass of a seat that is told of all
+pub tells : (number : ℕ) (v : View) (other : ℕ) (u : View) → v.writes ≡ false → Merges IsBoard number v other u (told_view v u) spent_view
+tells number v other u reads = takes_in number v other u (told_view v u) (λ writer all mine theirs. reads_of writer all number (told_view v u) reads (part_more v.known u.known all mine.known theirs.known) mine.noted)
 
 -- a join into the pass that notes what the other knows
 pub notes : (number : ℕ) (v : View) (other : ℕ) (u : View) → Merges IsBoard number v other u (noting_view v u) spent_view

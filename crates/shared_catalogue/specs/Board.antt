@@ -86,9 +86,9 @@ pub record IsLoadOf (v : View) (before after : List ℕ) (w : View) : Type 0 whe
   pub receipts : w.receipts ≡ v.receipts
   pub loads : w.loads ≡ v.loads + 1
 
--- a load by the writer: what it noted is a part of what it knows, and its view stays
+-- a load by the writer: what it noted is a part of what it knows, and is forgotten
 abbrev pub IsWriterLoadOf : View → List ℕ → List ℕ → View → Type 0
-IsWriterLoadOf v before after w = IsPartOf v.noted v.known × (w ≡ v)
+IsWriterLoadOf v before after w = IsPartOf v.noted v.known × (w ≡ writer_of v.known)
 
 -- making the board: the writer's first view knows the opening row, and no entry
 abbrev pub first_view : View
@@ -108,6 +108,10 @@ answered_view e v w = record {
   receipts = v.receipts ++ receipt_of e ∷ [];
   loads = v.loads;
 }
+
+-- a join of a copy of the writer's pass into a seat's: the view knows what the one that knows more does; the other is spent
+abbrev pub told_view : View → View → View
+told_view v w = record { writes = v.writes; known = more_known v.known w.known; noted = v.noted; receipts = v.receipts; loads = v.loads }
 
 -- a join of a copy of a seat's pass into the writer's: the view notes what the other knows, which is spent
 abbrev pub noting_view : View → View → View

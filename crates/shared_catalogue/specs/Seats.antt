@@ -31,6 +31,10 @@ pub record AreReceiptsIn (entries : List Entry) (station share : ℕ) (receipts 
 abbrev pub seated_after : Seated → List StatusRow → Receipt → Seated
 seated_after z rows more = seated z.station (z.share + 1) rows (z.receipts ++ more ∷ []) z.loads
 
+-- the seat knows these rows now, which begin with those that it knew, and all else of it is as it was
+abbrev pub IsTold : Seated → List StatusRow → Seated → Type 0
+IsTold old rows new = IsPrefix old.rows rows × (new ≡ seated old.station old.share rows old.receipts old.loads)
+
 -- what holds of every seat: one part, a station of the opened ones, a pass of the named board that reads, a share
 -- that is no more than the rows that name the station, and receipts that are among the entries that the pass knows
 pub record IsSeat (stations : ℕ) (named : TableId) (station parts share : ℕ) (board : TableId) (view : View) : Type 0 where

@@ -5,7 +5,7 @@ mod words;
 
 ghost use Rattle.std.specs.Prelude.{◌≡◌, true, []};
 ghost use Rattle.crossbeam_utils.specs.Seq.{cell_view};
-ghost use Rattle.shared_catalogue.specs.Board.{IsPartOf};
+ghost use Rattle.shared_catalogue.specs.Board.{writer_of, IsPartOf};
 
 use crate::receipt::Receipt;
 use atomic_table::{Join, Split};
@@ -117,6 +117,17 @@ impl<E: Entering> Join<View> for Answered<E> {
     ghost spent = { spent_view };
 }
 
+/// The join of a copy of the writer's pass into a seat's, which knows all that the writer knows then.
+pub struct Told;
+
+impl Join<View> for Told {
+    ghost use Rattle.shared_catalogue.specs.Board.{told_view, spent_view};
+
+    ghost both = { told_view };
+
+    ghost spent = { spent_view };
+}
+
 /// The join of a copy of a seat's pass into the writer's.
 pub struct Noted;
 
@@ -141,8 +152,7 @@ pub(crate) fn compare_known<R: Wait>(rt: &R, board: &Board, pass: &mut BoardPass
     requires copy { copy.me.1 ≡ [] }
     requires writer { (cell_view pass.old).writes ≡ true }
     ensures part { IsPartOf (cell_view copy).known (cell_view pass.old).known }
-    ensures pass { (pass.new.table_id ≡ pass.old.table_id) × ((cell_view pass.new).writes ≡ true) }
-    ensures known { (cell_view pass.new).known ≡ (cell_view pass.old).known }
+    ensures pass { (pass.new.table_id ≡ pass.old.table_id) × (cell_view pass.new ≡ writer_of (cell_view pass.old).known) }
 {
     board.join_pass::<Noted>(pass, copy);
     board.load_as::<WriterLoads, R>(rt, pass);

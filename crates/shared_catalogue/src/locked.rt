@@ -6,13 +6,13 @@ ghost use Rattle.catalogue_core.specs.declared.catalogue.TheConstants.{MAX_ENTRI
 ghost use Rattle.catalogue_core.specs.Replay.{answer_of, with_entry, IsHistoryOf};
 ghost use Rattle.shared_catalogue.specs.Board.{first_view};
 ghost use Rattle.shared_catalogue.specs.OwnCalls.{receipt};
-ghost use Rattle.shared_catalogue.specs.Seats.{seated};
+ghost use Rattle.shared_catalogue.specs.Seats.{seated, IsTold};
 ghost use Rattle.shared_catalogue.specs.StatusRows.{status_rows, IsToldOfCall};
 
 use crate::board::{Board, BoardPass};
 use crate::lot::Naming;
 use crate::seat::Seat;
-use catalogue_core::{Answer, Catalogue, Command, Stop};
+use catalogue_core::{Answer, Catalogue, Command, MAX_ENTRIES, Stop};
 use std::alloc::Global;
 use std::marker::{Brand, Model};
 use std::sync::Wait;
@@ -84,7 +84,8 @@ impl<J: Naming> LockedCatalogue<J> {
     /// is put on the board. The seat then knows all rows, and has the command and its answer as a receipt. Before it
     /// the catalogue was a history of the named tables, with as many entries as the seat had performed commands, at least.
     ///
-    /// All that takes memory comes before the entry, so that a `Stop` leaves the seat and the board too.
+    /// All that takes memory comes before the entry, so that a `Stop` leaves the board and the seat too; but a seat that meets a full journal
+    /// knows all its rows then.
     pub(crate) fn perform<R: Wait>(
         &mut self,
         alloc: Global,
@@ -101,11 +102,17 @@ impl<J: Naming> LockedCatalogue<J> {
         ensures rows { OnOk result (seat.new.rows ≡ status_rows self.new) }
         ensures told { IfOk result (λ answer. IsToldOfCall seat.old.rows seat.old.station answer seat.new.rows) }
         ensures loads { OnOk result (seat.new.loads ≡ seat.old.loads) }
-        ensures stopped { OnErr result ((self.new ≡ self.old) × (seat.new ≡ seat.old)) }
-        ensures full { IsErrOf result Stop.JournalFull → length self.old.journal ≡ MAX_ENTRIES }
+        ensures same { OnErr result (self.new ≡ self.old) }
+        ensures stopped { OnErr result (IsTold seat.old seat.new.rows seat.new) }
+        ensures no_memory { IsErrOf result Stop.NoMemory → seat.new ≡ seat.old }
+        ensures full { IsErrOf result Stop.JournalFull → (length self.old.journal ≡ MAX_ENTRIES) × (seat.new.rows ≡ status_rows self.old) }
         ensures history { IsHistoryOf J.opened seat.old.share self.old }
     {
         self.audit(seat);
+        if self.catalogue.journal().len() == MAX_ENTRIES {
+            seat.learn(rt, board, &mut self.pass);
+            return Err(Stop::JournalFull);
+        }
         let (_number, answer) = self.catalogue.perform(alloc, seat.station(), command)?;
         // Which entry is the last is picked for contracts, at `Brand`.
         seat.put_up::<Brand, R>(rt, board, &mut self.pass, &self.catalogue, &mut self.book);

@@ -10,8 +10,8 @@ ghost use Rattle.shared_catalogue.specs.Seats.{seated, seated_after, IsWithin};
 ghost use Rattle.shared_catalogue.specs.StatusRows.{opening_row, last_row, IsNumbered, calls_of};
 
 use crate::board::{
-    Answered, Board, BoardPass, Copied, Entering, Loads, Noted, Swaps, compare_known, row_of_words,
-    words_of_row,
+    Answered, Board, BoardPass, Copied, Entering, Loads, Noted, Swaps, Told, compare_known,
+    row_of_words, words_of_row,
 };
 use crate::lot::Naming;
 use catalogue_core::{Catalogue, StatusRow};
@@ -114,6 +114,20 @@ impl<J: Naming> Seat<J> {
         let copy = board.split_pass::<Copied>(pass);
         board.join_pass::<Answered<E>>(&mut self.pass, copy);
         book.add(&mut self.share, 1);
+    }
+
+    /// Tells the seat of all rows that the writer's pass knows. It changes nothing else.
+    pub(crate) fn learn<R: Wait>(&mut self, rt: &R, board: &Board, pass: &mut BoardPass)
+        requires board { (board.now.table.shared.table_id ≡ J.board) × (pass.old.table_id ≡ J.board) }
+        requires writer { (cell_view pass.old).writes ≡ true }
+        ensures pass { (pass.new.table_id ≡ J.board) × (cell_view pass.new ≡ writer_of (cell_view pass.old).known) }
+        ensures later { IsPrefix self.old.rows (cell_view pass.old).known.rows }
+        ensures seat { self.new ≡ seated self.old.station self.old.share (cell_view pass.old).known.rows self.old.receipts self.old.loads }
+    {
+        let known = board.split_pass::<Copied>(&mut self.pass);
+        compare_known(rt, board, pass, known);
+        let copy = board.split_pass::<Copied>(pass);
+        board.join_pass::<Told>(&mut self.pass, copy);
     }
 
     /// Changes nothing, and tells contracts that the seat has performed no more commands than the book has counted.

@@ -6,7 +6,7 @@ ghost use mathlib.Core.List.{IsPrefix};
 ghost use Rattle.catalogue_core.specs.declared.catalogue.TheConstants.{MAX_ENTRIES};
 ghost use Rattle.catalogue_core.specs.Replay.{History, answer_of, IsHistoryOf};
 ghost use Rattle.shared_catalogue.specs.OwnCalls.{receipt, AreOwn};
-ghost use Rattle.shared_catalogue.specs.Seats.{seated, new_seats, AreSeated, IsLowestMissing, IsLowestMismatch, IsOwn, AgreesWith};
+ghost use Rattle.shared_catalogue.specs.Seats.{seated, new_seats, AreSeated, IsLowestMissing, IsLowestMismatch, IsOwn, IsTold, AgreesWith};
 ghost use Rattle.shared_catalogue.specs.StatusRows.{status_rows, last_row, IsNumbered, calls_of, IsToldOfCall, AreRowsOfCall};
 
 use crate::board::{Board, Copied};
@@ -65,8 +65,8 @@ impl<J: Naming> Shared<J> {
     /// the row of the entry is put on the board, which is not read, and the seat is told of all rows up to it. For contracts
     /// the seat keeps the command and the answer as a receipt, which takes no memory.
     ///
-    /// A `Stop` is the catalogue's, and then seat, board and catalogue are as they were: `JournalFull` says that the
-    /// journal had `MAX_ENTRIES` entries.
+    /// A `Stop` is the catalogue's, and then board and catalogue are as they were. At `NoMemory` the seat is too. `JournalFull` says
+    /// that the journal has `MAX_ENTRIES` entries: the seat is told of all its rows.
     ///
     /// As a caller has it:
     ///
@@ -90,8 +90,9 @@ impl<J: Naming> Shared<J> {
         ensures rows { IfOk result (λ answer. AreRowsOfCall J.opened seat.old.share seat.old.station command.now answer seat.new.rows) }
         ensures told { IfOk result (λ answer. IsToldOfCall seat.old.rows seat.old.station answer seat.new.rows) }
         ensures loads { OnOk result (seat.new.loads ≡ seat.old.loads) }
-        ensures stopped { OnErr result (seat.new ≡ seat.old) }
-        ensures full { IsErrOf result Stop.JournalFull → (h : History) × IsHistoryOf J.opened seat.old.share h × (length h.journal ≡ MAX_ENTRIES) }
+        ensures stopped { OnErr result (IsTold seat.old seat.new.rows seat.new) }
+        ensures no_memory { IsErrOf result Stop.NoMemory → seat.new ≡ seat.old }
+        ensures full { IsErrOf result Stop.JournalFull → length seat.new.rows ≡ MAX_ENTRIES + 1 }
     {
         let mut locked = self.locked.lock(rt);
         locked.perform(alloc, rt, &self.board, seat, command)
