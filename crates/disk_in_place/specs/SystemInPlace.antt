@@ -1,6 +1,6 @@
 -- What contracts see of a folder of the system of which a file is written over where it is, and of what the calls of the system have
 -- answered for that.
-use Rattle.std.specs.Prelude.{◌≡◌, ◌⊎◌, ◌++◌, ℕ, List, Option, Some, None}
+use Rattle.std.specs.Prelude.{◌≡◌, ◌⊎◌, ◌++◌, ℕ, List, Bool, Option, Some, None}
 use Rattle.files_in_place.specs.System.{SystemAnswers}
 
 -- a file that is open to be written over, and its name
@@ -8,11 +8,12 @@ pub record FileInPlace (File : Type 0) : Type 0 where
   pub name : List ℕ
   pub file : File
 
--- Its path, ended by a slash, the file that is open to be written over, and how often a call on it has failed. What its files hold is
--- outside of the program.
+-- Its path, ended by a slash, the file that is open to be written over, whether a sync has failed, and how often a call on it has failed. What its
+-- files hold is outside of the program.
 pub record SystemFolderInPlace (File : Type 0) : Type 0 where
   pub path : List ℕ
   pub opened : Option (FileInPlace File)
+  pub has_failed_sync : Bool
   pub failures : ℕ
 
 -- What the calls of the system that write over a file have answered. Each member holds of what such a call was given and has answered, and

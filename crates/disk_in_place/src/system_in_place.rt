@@ -1,9 +1,9 @@
 //! A folder of the system of which a file is written over where it is.
 
-ghost use Rattle.std.specs.Prelude.{◌≡◌, ◌++◌, ◌∷◌, ◌⊎◌, [], All, None, IfOk, IfNone, IfSome, IsSomeAnd, OnOk, IsErrOf, IsTrue, IsFalse};
+ghost use Rattle.std.specs.Prelude.{◌≡◌, ◌++◌, ◌∷◌, ◌⊎◌, [], All, None, true, IfOk, IfNone, IfSome, IsSomeAnd, OnOk, IsErr, IsErrOf, IsTrue, IsFalse};
 ghost use Rattle.files_in_place.specs.declared.faults.DiskFault.TheVariants.{Failed};
 ghost use Rattle.files_in_place.specs.Disk.{HasCause};
-ghost use Rattle.files_in_place.specs.System.{CannotBegin, IsNoEntry, OneIsNoEntry, IsRefused, HasNoFile, HasFile, HasNoRegularFile, HasNoBytes, HasRead, HasReadNames, HasSynced, HasMade, HasSyncedFolder, HasAppended};
+ghost use Rattle.files_in_place.specs.System.{CannotBegin, IsNoEntry, OneIsNoEntry, IsRefused, HasNoFile, HasFile, HasNoRegularFile, HasNoBytes, HasRead, HasReadNames, HasSynced, HasMade, HasSyncedFolder, HasAppended, IsSyncMarked};
 ghost use Rattle.disk_in_place.specs.SystemInPlace.{HasWrittenOver, HasSyncedOver};
 
 use crate::calls::SystemCallsInPlace;
@@ -19,7 +19,7 @@ use std::marker::Model;
 ///
 /// Each answer is one that the system has given, as that of a [`SystemDisk`]: `Ok` of a write where the system has taken all of the
 /// bytes into the file that the name means, `Ok` of a sync where it has brought that file to the disk since, a failure where it
-/// refused a call. That is proved for every [`SystemCallsInPlace`].
+/// refused a call. That is proved for every [`SystemCallsInPlace`]. After a sync has failed each later one does, as a [`SystemDisk`] has it.
 ///
 /// No contract knows what a file of the system holds. So `keeps_promises` is claimed of no folder of the system, as of a
 /// [`SystemDisk`].
@@ -45,6 +45,7 @@ impl<R: SystemCallsInPlace + Drop> Model for SystemDiskInPlace<R> {
     ghost view = { λ d. record {
       path = string_bytes d.path;
       opened = option_map (λ o. record { name = o.name; file = o.file }) d.opened;
+      has_failed_sync = d.disk.has_failed_sync;
       failures = d.disk.failures + d.failures;
     } };
 
@@ -63,6 +64,7 @@ impl<R: SystemCallsInPlace + Drop> SystemDiskInPlace<R> {
         ensures path { IfOk result (λ placed. placed.path ≡ disk.path) }
         ensures failures { IfOk result (λ placed. placed.failures ≡ disk.failures) }
         ensures opened { IfOk result (λ placed. placed.opened ≡ None) }
+        ensures syncs { IfOk result (λ placed. placed.has_failed_sync ≡ disk.has_failed_sync) }
     {
         let path = format!(in alloc; "{path}/")?;
         Ok(SystemDiskInPlace {
@@ -79,6 +81,7 @@ impl<R: SystemCallsInPlace + Drop> SystemDiskInPlace<R> {
     fn told(&mut self, outcome: Result<(), DiskFault>) -> Result<(), DiskFault>
         ensures same { result ≡ outcome }
         ensures folder { self.new.path ≡ self.old.path }
+        ensures syncs { self.new.has_failed_sync ≡ self.old.has_failed_sync }
         ensures opened { self.new.opened ≡ self.old.opened }
         ensures cause { HasCause self.old.failures self.new.failures (IsErrOf result Failed) }
     {
@@ -91,12 +94,28 @@ impl<R: SystemCallsInPlace + Drop> SystemDiskInPlace<R> {
             }
         }
     }
+
+    // Counts a failure of a sync over a file, and has each later sync fail.
+    fn told_of_sync(&mut self, outcome: Result<(), DiskFault>) -> Result<(), DiskFault>
+        ensures same { result ≡ outcome }
+        ensures folder { self.new.path ≡ self.old.path }
+        ensures opened { self.new.opened ≡ self.old.opened }
+        ensures failed { IsErr result → self.new.has_failed_sync ≡ true }
+        ensures synced { OnOk result (self.new.has_failed_sync ≡ self.old.has_failed_sync) }
+        ensures cause { HasCause self.old.failures self.new.failures (IsErrOf result Failed) }
+    {
+        if outcome.is_err() {
+            self.disk.fail_syncs();
+        }
+        self.told(outcome)
+    }
 }
 
 impl<R: SystemCallsInPlace + Drop> SystemDiskInPlace<R> {
     // Writes over bytes of the file of the name.
     fn write_over(&mut self, name: &[u8], offset: u64, bytes: &[u8]) -> Result<(), DiskFault>
         ensures folder { self.new.path ≡ self.old.path }
+        ensures syncs { self.new.has_failed_sync ≡ self.old.has_failed_sync }
         ensures failures { self.new.failures ≡ self.old.failures }
         ensures written { OnOk result (IsSomeAnd self.new.opened
             (HasWrittenOver R.answers R.answers_in_place self.old.path name.now offset bytes.now self.old.opened)) }
@@ -112,6 +131,7 @@ impl<R: SystemCallsInPlace + Drop> SystemDiskInPlace<R> {
     // Brings the bytes of the file of the name to the disk.
     fn sync_over(&mut self, name: &[u8]) -> Result<(), DiskFault>
         ensures folder { self.new.path ≡ self.old.path }
+        ensures syncs { self.new.has_failed_sync ≡ self.old.has_failed_sync }
         ensures failures { self.new.failures ≡ self.old.failures }
         ensures synced { OnOk result (IsSomeAnd self.new.opened
             (HasSyncedOver R.answers R.answers_in_place self.old.path name.now self.old.opened)) }
@@ -133,6 +153,7 @@ impl<R: SystemCallsInPlace + Drop> Disk for SystemDiskInPlace<R> {
     fn read(&mut self, alloc: Global, name: &[u8]) -> Result<Option<Bytes>, DiskFault>
         ensures cause { HasCause self.old.failures self.new.failures (IsErrOf result Failed) }
         ensures folder { self.new.path ≡ self.old.path }
+        ensures syncs { self.new.has_failed_sync ≡ self.old.has_failed_sync }
         ensures opened { self.new.opened ≡ self.old.opened }
         ensures none { IfOk result (λ content. IfNone content (HasNoFile R.answers (self.old.path ++ name.now))) }
         ensures bytes { IfOk result (λ content. IfSome content (λ bytes. HasRead R.answers (self.old.path ++ name.now) bytes)) }
@@ -144,6 +165,7 @@ impl<R: SystemCallsInPlace + Drop> Disk for SystemDiskInPlace<R> {
     fn has(&mut self, name: &[u8]) -> Result<bool, DiskFault>
         ensures cause { HasCause self.old.failures self.new.failures (IsErrOf result Failed) }
         ensures folder { self.new.path ≡ self.old.path }
+        ensures syncs { self.new.has_failed_sync ≡ self.old.has_failed_sync }
         ensures opened { self.new.opened ≡ self.old.opened }
         ensures there { IfOk result (λ found. IsTrue found → HasFile R.answers (self.old.path ++ name.now)) }
         ensures none { IfOk result (λ found. IsFalse found → HasNoFile R.answers (self.old.path ++ name.now)) }
@@ -155,6 +177,7 @@ impl<R: SystemCallsInPlace + Drop> Disk for SystemDiskInPlace<R> {
     fn list(&mut self, alloc: Global) -> Result<Vec<Bytes>, DiskFault>
         ensures cause { HasCause self.old.failures self.new.failures (IsErrOf result Failed) }
         ensures folder { self.new.path ≡ self.old.path }
+        ensures syncs { self.new.has_failed_sync ≡ self.old.has_failed_sync }
         ensures opened { self.new.opened ≡ self.old.opened }
         ensures all { OnOk result (HasReadNames R.answers self.old.path) }
     {
@@ -164,6 +187,7 @@ impl<R: SystemCallsInPlace + Drop> Disk for SystemDiskInPlace<R> {
     fn create(&mut self, name: &[u8]) -> Result<(), DiskFault>
         ensures cause { HasCause self.old.failures self.new.failures (IsErrOf result Failed) }
         ensures folder { self.new.path ≡ self.old.path }
+        ensures syncs { self.new.has_failed_sync ≡ self.old.has_failed_sync }
         ensures closed { self.new.opened ≡ None }
         ensures made { OnOk result (HasMade R.answers self.old.path name.now) }
         ensures failed { IsErrOf result Failed → CannotBegin R.answers self.old.path name.now ⊎ IsRefused R.answers }
@@ -175,6 +199,7 @@ impl<R: SystemCallsInPlace + Drop> Disk for SystemDiskInPlace<R> {
     fn append(&mut self, name: &[u8], bytes: &[u8]) -> Result<(), DiskFault>
         ensures cause { HasCause self.old.failures self.new.failures (IsErrOf result Failed) }
         ensures folder { self.new.path ≡ self.old.path }
+        ensures syncs { self.new.has_failed_sync ≡ self.old.has_failed_sync }
         ensures opened { self.new.opened ≡ self.old.opened }
         ensures written { OnOk result (HasAppended R.answers R.File.contents (self.old.path ++ name.now) bytes.now) }
     {
@@ -184,9 +209,10 @@ impl<R: SystemCallsInPlace + Drop> Disk for SystemDiskInPlace<R> {
     fn sync_file(&mut self, name: &[u8]) -> Result<(), DiskFault>
         ensures cause { HasCause self.old.failures self.new.failures (IsErrOf result Failed) }
         ensures folder { self.new.path ≡ self.old.path }
+        ensures syncs { IsSyncMarked self.old.has_failed_sync self.new.has_failed_sync result }
         ensures opened { self.new.opened ≡ self.old.opened }
         ensures synced { OnOk result (HasSynced R.answers (self.old.path ++ name.now) ⊎ HasNoBytes R.answers (self.old.path ++ name.now)) }
-        ensures failed { IsErrOf result Failed → IsNoEntry name.now ⊎ IsRefused R.answers }
+        ensures failed { IsErrOf result Failed → (self.old.has_failed_sync ≡ true) ⊎ IsNoEntry name.now ⊎ IsRefused R.answers }
     {
         self.disk.sync_file(name)
     }
@@ -194,9 +220,10 @@ impl<R: SystemCallsInPlace + Drop> Disk for SystemDiskInPlace<R> {
     fn sync_files(&mut self, names: &[Bytes]) -> Result<(), DiskFault>
         ensures cause { HasCause self.old.failures self.new.failures (IsErrOf result Failed) }
         ensures folder { self.new.path ≡ self.old.path }
+        ensures syncs { IsSyncMarked self.old.has_failed_sync self.new.has_failed_sync result }
         ensures opened { self.new.opened ≡ self.old.opened }
         ensures synced { OnOk result (All (λ name. HasSynced R.answers (self.old.path ++ name) ⊎ HasNoBytes R.answers (self.old.path ++ name)) names.now) }
-        ensures failed { IsErrOf result Failed → OneIsNoEntry names.now ⊎ IsRefused R.answers }
+        ensures failed { IsErrOf result Failed → (self.old.has_failed_sync ≡ true) ⊎ OneIsNoEntry names.now ⊎ IsRefused R.answers }
     {
         self.disk.sync_files(names)
     }
@@ -204,6 +231,7 @@ impl<R: SystemCallsInPlace + Drop> Disk for SystemDiskInPlace<R> {
     fn rename(&mut self, from: &[u8], to: &[u8]) -> Result<(), DiskFault>
         ensures cause { HasCause self.old.failures self.new.failures (IsErrOf result Failed) }
         ensures folder { self.new.path ≡ self.old.path }
+        ensures syncs { self.new.has_failed_sync ≡ self.old.has_failed_sync }
         ensures closed { self.new.opened ≡ None }
         ensures renamed { OnOk result (R.answers.renames (self.old.path ++ from.now) (self.old.path ++ to.now)) }
         ensures failed { IsErrOf result Failed → IsNoEntry from.now ⊎ IsNoEntry to.now ⊎ IsRefused R.answers }
@@ -215,6 +243,7 @@ impl<R: SystemCallsInPlace + Drop> Disk for SystemDiskInPlace<R> {
     fn remove(&mut self, name: &[u8]) -> Result<(), DiskFault>
         ensures cause { HasCause self.old.failures self.new.failures (IsErrOf result Failed) }
         ensures folder { self.new.path ≡ self.old.path }
+        ensures syncs { self.new.has_failed_sync ≡ self.old.has_failed_sync }
         ensures closed { self.new.opened ≡ None }
         ensures removed { OnOk result (R.answers.removes (self.old.path ++ name.now) ⊎ HasNoFile R.answers (self.old.path ++ name.now)) }
         ensures failed { IsErrOf result Failed → IsNoEntry name.now ⊎ IsRefused R.answers }
@@ -226,9 +255,10 @@ impl<R: SystemCallsInPlace + Drop> Disk for SystemDiskInPlace<R> {
     fn sync_folder(&mut self) -> Result<(), DiskFault>
         ensures cause { HasCause self.old.failures self.new.failures (IsErrOf result Failed) }
         ensures folder { self.new.path ≡ self.old.path }
+        ensures syncs { IsSyncMarked self.old.has_failed_sync self.new.has_failed_sync result }
         ensures opened { self.new.opened ≡ self.old.opened }
         ensures synced { OnOk result (HasSyncedFolder R.answers self.old.path) }
-        ensures failed { IsErrOf result Failed → IsRefused R.answers }
+        ensures failed { IsErrOf result Failed → (self.old.has_failed_sync ≡ true) ⊎ IsRefused R.answers }
     {
         self.disk.sync_folder()
     }
@@ -238,6 +268,7 @@ impl<R: SystemCallsInPlace + Drop> DiskInPlace for SystemDiskInPlace<R> {
     fn write_at(&mut self, name: &[u8], offset: u64, bytes: &[u8]) -> Result<(), DiskFault>
         ensures cause { HasCause self.old.failures self.new.failures (IsErrOf result Failed) }
         ensures folder { self.new.path ≡ self.old.path }
+        ensures syncs { self.new.has_failed_sync ≡ self.old.has_failed_sync }
         ensures written { OnOk result (IsSomeAnd self.new.opened
             (HasWrittenOver R.answers R.answers_in_place self.old.path name.now offset bytes.now self.old.opened)) }
         ensures failed { IsErrOf result Failed → IsNoEntry name.now ⊎ HasNoRegularFile R.answers (self.old.path ++ name.now) ⊎ IsRefused R.answers }
@@ -249,11 +280,15 @@ impl<R: SystemCallsInPlace + Drop> DiskInPlace for SystemDiskInPlace<R> {
     fn sync_in_place(&mut self, name: &[u8]) -> Result<(), DiskFault>
         ensures cause { HasCause self.old.failures self.new.failures (IsErrOf result Failed) }
         ensures folder { self.new.path ≡ self.old.path }
+        ensures syncs { IsSyncMarked self.old.has_failed_sync self.new.has_failed_sync result }
         ensures synced { OnOk result (IsSomeAnd self.new.opened
             (HasSyncedOver R.answers R.answers_in_place self.old.path name.now self.old.opened)) }
-        ensures failed { IsErrOf result Failed → IsNoEntry name.now ⊎ HasNoRegularFile R.answers (self.old.path ++ name.now) ⊎ IsRefused R.answers }
+        ensures failed { IsErrOf result Failed → (self.old.has_failed_sync ≡ true) ⊎ IsNoEntry name.now ⊎ HasNoRegularFile R.answers (self.old.path ++ name.now) ⊎ IsRefused R.answers }
     {
+        if self.disk.has_failed_sync() {
+            return self.told(Err(DiskFault::Failed));
+        }
         let outcome = self.sync_over(name);
-        self.told(outcome)
+        self.told_of_sync(outcome)
     }
 }

@@ -97,7 +97,7 @@ const RECOVERED: [(&[TextFile], &[TextFile]); 2] = [
             ("B", "old b"),
             ("C", "another"),
             ("~niqarthu~B", "new b"),
-            ("~niqarthu.list", "A\nB\n"),
+            ("~niqarthu.list", "A\nB\n~niqarthu: 2 names\n"),
         ],
         &[("A", "new a"), ("B", "new b"), ("C", "another")],
     ),
@@ -105,7 +105,7 @@ const RECOVERED: [(&[TextFile], &[TextFile]); 2] = [
         &[
             ("A", "old a"),
             ("~niqarthu~A", "new a"),
-            ("~niqarthu~~niqarthu.list", "A\n"),
+            ("~niqarthu~~niqarthu.list", "A\n~niqarthu: 1 names\n"),
         ],
         &[("A", "old a")],
     ),
@@ -275,7 +275,11 @@ fn refuses_linked_list<R: Runtime + Files<File = File> + AllocGlobal + Threads>(
     alloc: Global,
     folder: &str,
 ) -> Result<bool, Fail> {
-    let files = [("A", "old a"), ("list", "A\n"), ("~niqarthu~A", "new a")];
+    let files = [
+        ("A", "old a"),
+        ("list", "A\n~niqarthu: 1 names\n"),
+        ("~niqarthu~A", "new a"),
+    ];
     make_folder(rt, folder, &files)?;
     let list = path_in(rt, folder, "~niqarthu.list")?;
     symlink(rt, "list", list.as_str())?;

@@ -99,6 +99,22 @@ fn bytes_go_to_the_file_made_last_until_it_is_synced(rt: HostRuntime) -> Result<
     Ok(())
 }
 
+#[test]
+fn a_file_that_loses_its_name_takes_no_bytes(rt: HostRuntime) -> Result<(), Fail> {
+    let folder = "folder_of_lost_names";
+    make_folder(&rt, folder, &[("B", "b")])?;
+    let mut disk = open_disk(&rt, rt.alloc(), folder)?;
+    disk.create(b"A")?;
+    disk.rename(b"B", b"A")?;
+    let replaced = disk.append(b"A", b"a").is_err() && disk.sync_file(b"A").is_ok();
+    disk.create(b"C")?;
+    disk.remove(b"C")?;
+    let removed = disk.append(b"C", b"c").is_err() && disk.sync_file(b"C").is_ok();
+    assert!(rt; replaced && removed && has_just(&rt, folder, &[("A", "b")])?);
+    fs::remove_dir_all(&rt, folder)?;
+    Ok(())
+}
+
 // Why a second disk is not given while the first is there.
 fn why_refused_beside<R: Runtime + Files<File = File> + AllocGlobal + Threads>(
     rt: &R,

@@ -7,7 +7,7 @@ use Rattle.files_in_place.specs.Folder.{Name, Folder, is_reserved, temporary, li
 use Rattle.files_in_place.specs.Disk.{DiskMeaning, AfterStep, SameButTwo, HasMoved, MayMove, IsDurable}
 use Rattle.files_in_place.specs.Recovery.{RecoversTo, SameFree, StillRecovers}
 use Rattle.files_in_place.specs.Staged.{is_staged, is_file_name, is_name_byte, is_dots, with_staged, IsUncommitted, AreReady, IsPut}
-use Rattle.files_in_place.proofs.NameLists.{lines_of-list_bytes}
+use Rattle.files_in_place.proofs.NameLists.{names_of-list_bytes}
 use Rattle.files_in_place.proofs.Meaning.{free_other, temporary-inj, recovered_by, recovered_free, recovered_reserved, first_there}
 use Rattle.files_in_place.proofs.Uncommitted.{second_true, staged_free, apart_from_list, uncommitted_old}
 
@@ -22,7 +22,7 @@ bytes_no_feed (b ∷ name) is = elim (cases_Bool (is_name_byte b)) [
   | inr isnt ↦ absurd (both_ways false refl (sym (rw isnt refl) ∙ is))
 ]
 
-one_line : (name : Name) → is_file_name name ≡ true → AllByRecursion (λ b. b ≢ 10) name
+pub one_line : (name : Name) → is_file_name name ≡ true → AllByRecursion (λ b. b ≢ 10) name
 one_line name is = bytes_no_feed name (and_parts _ _ (second_true (is_dots name) _ (second_true (is_reserved name) _ is))).0
 
 lines_fit : (names : List Name) → AllByRecursion (λ name. is_file_name name ≡ true) names → AllByRecursion (AllByRecursion (λ b. b ≢ 10)) names
@@ -32,7 +32,7 @@ lines_fit (name ∷ names) fit = (one_line name fit.0, lines_fit names fit.1)
 -- a folder that has the list lists the names of the set
 pub listed_staged : (names : List Name) (c : Folder) (n : Name) → AllByRecursion (λ name. is_file_name name ≡ true) names → c list_name ≡ Some (list_bytes names) → is_listed c n ≡ is_staged names n
 listed_staged names c n fit list =
-    ap (λ (l : List Name). list_any (λ listed. bytes_eq listed n) l) (ap names_in list ∙ lines_of-list_bytes names (lines_fit names fit))
+    ap (λ (l : List Name). list_any (λ listed. bytes_eq listed n) l) (ap names_in list ∙ names_of-list_bytes names (lines_fit names fit))
 
 -- what the set has at a name, or else what was there
 abbrev staged_or : List Name → Folder → Folder
@@ -113,7 +113,7 @@ module _ {D : Type 0} (m : DiskMeaning D) (names : List Name) (disk : D) (ready 
   -- it has the names of the set
   pub listed_names : (mid new : Folder) → mid ≡ (m.seen disk) → HasMoved (temporary list_name) list_name mid new → (after : Folder) → after ≡ new → names ≡ names_in (after list_name)
   listed_names mid new is moved after same =
-      sym (ap names_in (ap (λ (f : Folder). f list_name) same ∙ list_there mid new is moved) ∙ lines_of-list_bytes names (lines_fit names ready.fit))
+      sym (ap names_in (ap (λ (f : Folder). f list_name) same ∙ list_there mid new is moved) ∙ names_of-list_bytes names (lines_fit names ready.fit))
 
   same_new : (mid new : Folder) → mid ≡ (m.seen disk) → SameButTwo (temporary list_name) list_name mid new → SameFree (m.seen disk) new
   same_new mid new is others n free = free_same mid new others n free ∙ ap (λ (f : Folder). f n) is

@@ -7,6 +7,7 @@ pub mod Each
 pub mod Ending
 pub mod Uncommitted
 pub mod Committing
+pub mod CutLists
 pub mod Sets
 pub mod Histories
 pub mod WrittenFiles

@@ -1,7 +1,8 @@
 -- A folder: which names have a file, and what is in it. What a folder that a crash left stands for.
-use Rattle.std.specs.Prelude.{◌≡◌, ◌≢◌, ℕ, List, [], ◌∷◌, ◌++◌, Bool, Option, None, Some, codes, nat_eq, if◌then◌else◌, ◌==◌}
+use Rattle.std.specs.Prelude.{◌≡◌, ◌≢◌, ℕ, ◌-◌, List, [], ◌∷◌, ◌++◌, length, take, Bool, Option, None, Some, codes, nat_eq, if◌then◌else◌, ◌==◌}
 use Rattle.std.specs.List.{list_any, starts_with}
 use Rattle.std.specs.Str.{bytes_eq}
+use Rattle.std.specs.Fmt.{decimal}
 
 -- a name is its bytes
 abbrev pub Name : Type 0
@@ -27,10 +28,18 @@ temporary name = codes "~niqarthu~" ++ name
 abbrev pub list_name : Name
 list_name = codes "~niqarthu.list"
 
--- the bytes of a list of names: a line for each, ended by a line feed
+-- a line for each name, ended by a line feed
+abbrev pub name_lines : List Name → List ℕ
+name_lines [] = []
+name_lines (name ∷ names) = name ++ 10 ∷ name_lines names
+
+-- what a list of so many names ends with: its name is reserved, so it is none of them
+abbrev pub end_line : ℕ → Name
+end_line count = codes "~niqarthu: " ++ (decimal count ++ codes " names")
+
+-- the bytes of a list of names: a line for each, and one that says how many they are
 abbrev pub list_bytes : List Name → List ℕ
-list_bytes [] = []
-list_bytes (name ∷ names) = name ++ 10 ∷ list_bytes names
+list_bytes names = name_lines names ++ (end_line (length names) ++ 10 ∷ [])
 
 -- a byte more at the front of the first line; where no line is whole, of none
 abbrev pub onto_first : ℕ → List Name → List Name
@@ -42,10 +51,14 @@ abbrev pub lines_of : List ℕ → List Name
 lines_of [] = []
 lines_of (b ∷ bytes) = if b == 10 then [] ∷ lines_of bytes else onto_first b (lines_of bytes)
 
+-- the names of a list: its lines but the last
+abbrev pub names_of : List ℕ → List Name
+names_of bytes = take (length (lines_of bytes) - 1) (lines_of bytes)
+
 -- the names in the list, if there is a list
 abbrev pub names_in : Option (List ℕ) → List Name
 names_in None = []
-names_in (Some bytes) = lines_of bytes
+names_in (Some bytes) = names_of bytes
 
 -- whether the folder's list has the name
 abbrev pub is_listed : Folder → Name → Bool

@@ -1,10 +1,10 @@
 -- A set of new files, and a folder before and after they have their names.
-use Rattle.std.specs.Prelude.{◌≡◌, ◌≢◌, ◌⊎◌, ℕ, ◌≤◌, List, [], ◌∷◌, length, Bool, true, false, not, ◌&&◌, ◌||◌, ◌==◌, nat_le, Option, None, Some, IsSome, if◌then◌else◌}
+use Rattle.std.specs.Prelude.{◌≡◌, ◌≢◌, ◌⊎◌, ℕ, ◌≤◌, List, [], ◌∷◌, ◌++◌, length, Bool, true, false, not, ◌&&◌, ◌||◌, ◌==◌, nat_le, Option, None, Some, IsSome, if◌then◌else◌}
 use Rattle.std.specs.List.{AllByRecursion, list_any, list_all}
 use Rattle.std.specs.Str.{bytes_eq, is_utf8}
 use Rattle.files_in_place.specs.declared.phase.Phase.{Phase}
 use Rattle.files_in_place.specs.declared.phase.Phase.TheVariants.{Staging, Ended}
-use Rattle.files_in_place.specs.Folder.{Name, Folder, is_reserved, temporary, list_name, list_bytes, lines_of}
+use Rattle.files_in_place.specs.Folder.{Name, Folder, is_reserved, temporary, list_name, list_bytes, names_of}
 use Rattle.files_in_place.specs.Disk.{DiskMeaning, LeavesOnly}
 use Rattle.files_in_place.specs.Recovery.{RecoversTo, SameFree, HasOldFiles}
 
@@ -36,14 +36,18 @@ most_name_bytes = 245
 abbrev pub is_file_name : Name → Bool
 is_file_name name = not (is_reserved name) && (not (is_dots name) && (list_all is_name_byte name && (nat_le (length name) most_name_bytes && is_utf8 name)))
 
--- The bytes are a list that a set may have written: each line is ended, and each is a name that a file may have.
+-- The bytes are a list that a set may have written: a line for each name, which a file may have, and the line that ends a list of so many.
 pub record IsList (bytes : List ℕ) : Type 0 where
-  pub ended : list_bytes (lines_of bytes) ≡ bytes
-  pub names : AllByRecursion (λ name. is_file_name name ≡ true) (lines_of bytes)
+  pub whole : list_bytes (names_of bytes) ≡ bytes
+  pub names : AllByRecursion (λ name. is_file_name name ≡ true) (names_of bytes)
 
 -- the folder has a list, and it is none that a set may have written
 abbrev pub HasBadList : Folder → Type 0
 HasBadList folder = (bytes : List ℕ) × (folder list_name ≡ Some bytes) × ¬ (IsList bytes)
+
+-- the folder has a list that was cut: what is left of one that a set may have written, of which bytes at its end are gone
+abbrev pub HasCutList : Folder → Type 0
+HasCutList folder = (front : List ℕ) × (gone : List ℕ) × (folder list_name ≡ Some front) × IsList (front ++ gone) × (gone ≢ [])
 
 -- The folder once the set is in place: at each name of the set the bytes that were staged, at each other name what was
 -- there, and no reserved name.

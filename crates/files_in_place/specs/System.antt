@@ -1,5 +1,5 @@
 -- What contracts see of a folder of the system, and of what the calls of the system have answered.
-use Rattle.std.specs.Prelude.{◌≡◌, ◌≢◌, ◌⊎◌, ◌∷◌, [], ◌++◌, ℕ, List, Option, Some, Result, Ok, Err, true, false}
+use Rattle.std.specs.Prelude.{◌≡◌, ◌≢◌, ◌⊎◌, ◌∷◌, [], ◌++◌, ℕ, List, Option, Some, Bool, Result, Ok, Err, IsErr, OnOk, true, false}
 use Rattle.std.specs.Io.KnownBytes.{Appends}
 use Rattle.std.specs.Fs.{file_type, metadata_mode, IsDir, IsFile}
 use Rattle.std.specs.List.{Contains}
@@ -10,13 +10,24 @@ use Rattle.std.specs.declared.io.ErrorKind.TheVariants.{NotFound, OutOfMemory}
 use Rattle.std.specs.declared.fs.Metadata.{Metadata}
 use Rattle.std.specs.declared.fs.TryLockError.{TryLockError}
 use Rattle.std.specs.declared.fs.TryLockError.TheVariants as of_lock
+use Rattle.files_in_place.specs.declared.faults.DiskFault.{DiskFault}
+use Rattle.files_in_place.specs.declared.faults.DiskFault.TheVariants.{Failed}
 use Rattle.files_in_place.specs.Folder.{temporary}
 use Rattle.files_in_place.specs.Staged.{is_dots}
 
--- Its path, ended by a slash, and how often a call on it has failed. What its files hold is outside of the program.
+-- Its path, ended by a slash, the name of the file that is open to take bytes, whether a sync has failed, and how often a call on it has failed.
+-- What its files hold is outside of the program.
 pub record SystemFolder : Type 0 where
   pub path : List ℕ
+  pub current : Option (List ℕ)
+  pub has_failed_sync : Bool
   pub failures : ℕ
+
+-- What a sync answers, where it is known before it and after it whether one has failed: after one that has, each fails.
+pub record IsSyncMarked (before now : Bool) (result : Result (Unit {0}) DiskFault) : Type 0 where
+  pub refused : before ≡ true → result ≡ Err Failed
+  pub failed : IsErr result → now ≡ true
+  pub synced : OnOk result (now ≡ false)
 
 -- The file that was created last has this name and has taken these bytes, all of them and no others, after those that it had, where
 -- these are known. A file is seen by its name and by what it holds.

@@ -59,6 +59,10 @@ pub trait Disk {
 
     /// At `Ok`, the bytes of the file are on the disk, whoever has written them (`fsync`). Its name may not be yet. A name without a
     /// file has none to be brought there.
+    ///
+    /// So it is after a sync that has failed, too. Linux takes the bytes of a failed sync for written, and a later sync succeeds without
+    /// them: so a disk over it answers no `Ok` to a sync once one has failed, as a [`SystemDisk`](crate::SystemDisk). That no
+    /// sync of the file has failed before the disk was opened is believed.
     fn sync_file(&mut self, name: &[u8]) -> Result<(), DiskFault>
         ensures durable { OnOk result (meaning.is_whole self.new name.now) }
         ensures only { OnlyReads meaning self.old self.new }

@@ -58,7 +58,7 @@ pub enum RecoveryFault {
     /// The disk failed.
     #[error("the disk failed")]
     Failed,
-    /// The folder's list of new files is none that a set has written. Nothing in the folder was touched.
+    /// The folder's list of new files is none that a set has written, or was cut. Nothing in the folder was touched.
     #[error("the list of new files is none of a set's")]
     BadList,
     /// The new file of this name, which the list has, can't take its place.

@@ -2,7 +2,7 @@
 
 ghost use Rattle.std.specs.Prelude.{◌≡◌, ◌⊎◌, Err, IfOk, IfErr, IsErr};
 ghost use Rattle.files_in_place.specs.declared.faults.RecoveryFault.TheVariants.{BadList, NoMemory, Unreplaced};
-ghost use Rattle.files_in_place.specs.Folder.{Name, list_name, lines_of, names_in};
+ghost use Rattle.files_in_place.specs.Folder.{Name, list_name, names_of, names_in};
 ghost use Rattle.files_in_place.specs.Disk.{OnlyReads, HasDiskCause};
 ghost use Rattle.files_in_place.specs.Recovery.{NoneReserved};
 ghost use Rattle.files_in_place.specs.Faults.{IsDiskFailure};
@@ -10,20 +10,20 @@ ghost use Rattle.files_in_place.specs.Staged.{IsList, HasBadList};
 
 use crate::disk::Disk;
 use crate::faults::RecoveryFault;
-use crate::names::{are_file_names, list_bytes, split_names};
+use crate::names::{are_file_names, list_bytes, names_of};
 use byte_io::Bytes;
 use std::alloc::Global;
 
 // The names in a list. `BadList` where it is none that a set may have written.
 fn names_of_list(alloc: Global, list: &[u8]) -> Result<Vec<Bytes>, RecoveryFault>
-    ensures names { IfOk result (λ names. names.items ≡ lines_of list.now) }
+    ensures names { IfOk result (λ names. names.items ≡ names_of list.now) }
     ensures free { IfOk result (λ names. NoneReserved names.items) }
     ensures bad_list { (result ≡ Err BadList) → ¬ (IsList list.now) }
     ensures refused { ¬ (IsList list.now) → IsErr result }
     ensures fault { IfErr result (λ fault. (fault ≡ BadList) ⊎ (fault ≡ NoMemory)) }
 {
-    let names = split_names(alloc, list)?;
-    // A set would write its lines so: the last one is ended too.
+    let names = names_of(alloc, list)?;
+    // A set would write these names so, with their count at the end.
     let written = list_bytes(alloc, &names)?;
     if written.as_slice() != list || !are_file_names(&names) {
         return Err(RecoveryFault::BadList);

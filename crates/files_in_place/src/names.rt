@@ -1,7 +1,7 @@
 //! Names of files, and lists of them.
 
 ghost use Rattle.std.specs.Prelude.{◌≡◌, true, IfOk, map};
-ghost use Rattle.files_in_place.specs.Folder.{is_reserved, temporary, list_bytes, lines_of};
+ghost use Rattle.files_in_place.specs.Folder.{is_reserved, temporary, name_lines, list_bytes, lines_of, names_of};
 ghost use Rattle.files_in_place.specs.Staged.{is_staged, is_name_byte, is_dots, is_file_name};
 ghost use Rattle.std.specs.List.{list_all, AllByRecursion};
 ghost use Rattle.std.specs.Str.{is_utf8};
@@ -106,30 +106,50 @@ pub(crate) fn temporary_names(alloc: Global, names: &[Bytes]) -> Result<Vec<Byte
 }
 
 // A line for each name.
+fn name_lines(alloc: Global, names: &[Bytes]) -> Result<Vec<u8>, AllocError>
+    ensures value { IfOk result (λ lines. lines.items ≡ name_lines names.now) }
+{
+    let mut lines = Vec::new(alloc);
+    for name in names {
+        lines.extend_from_slice(name.as_slice())?;
+        lines.push(b'\n')?;
+    }
+    Ok(lines)
+}
+
+// A list of names. Its last line, which is no name, says how many they are: so a list that is cut anywhere is none.
 pub(crate) fn list_bytes(alloc: Global, names: &[Bytes]) -> Result<Vec<u8>, AllocError>
     ensures value { IfOk result (λ list. list.items ≡ list_bytes names.now) }
 {
-    let mut list = Vec::new(alloc);
-    for name in names {
-        list.extend_from_slice(name.as_slice())?;
-        list.push(b'\n')?;
-    }
+    let mut list = name_lines(alloc, names)?;
+    let end = format!(in alloc; "~niqarthu: {} names", names.len())?;
+    list.extend_from_slice(end.as_bytes())?;
+    list.push(b'\n')?;
     Ok(list)
 }
 
 // The whole lines of a list.
-pub(crate) fn split_names(alloc: Global, list: &[u8]) -> Result<Vec<Bytes>, AllocError>
-    ensures value { IfOk result (λ names. names.items ≡ lines_of list.now) }
+fn split_lines(alloc: Global, list: &[u8]) -> Result<Vec<Bytes>, AllocError>
+    ensures value { IfOk result (λ lines. lines.items ≡ lines_of list.now) }
 {
-    let mut names = Vec::new(alloc);
+    let mut lines = Vec::new(alloc);
     let mut line = Vec::new(alloc);
     for b in list {
         if *b == b'\n' {
-            names.push(Bytes::from_vec(line))?;
+            lines.push(Bytes::from_vec(line))?;
             line = Vec::new(alloc);
         } else {
             line.push(*b)?;
         }
     }
+    Ok(lines)
+}
+
+// The names of a list: its whole lines but the last.
+pub(crate) fn names_of(alloc: Global, list: &[u8]) -> Result<Vec<Bytes>, AllocError>
+    ensures value { IfOk result (λ names. names.items ≡ names_of list.now) }
+{
+    let mut names = split_lines(alloc, list)?;
+    names.pop();
     Ok(names)
 }

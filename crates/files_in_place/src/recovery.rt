@@ -7,7 +7,7 @@ ghost use Rattle.files_in_place.specs.Folder.{Name, is_reserved, temporary, list
 ghost use Rattle.files_in_place.specs.Disk.{AfterStep, LeavesOnly, Steps, IsSyncedDisk, HasDiskCause};
 ghost use Rattle.files_in_place.specs.Faults.{IsDiskFailure};
 ghost use Rattle.files_in_place.specs.Recovery.{NoneReserved, AreListed, AreOnDisk, AreRenamed, CanClean, CanRename, KeepsRecovery, IsClean, OthersAreWhole, StillRecovers};
-ghost use Rattle.files_in_place.specs.Staged.{HasBadList};
+ghost use Rattle.files_in_place.specs.Staged.{HasBadList, HasCutList};
 
 use crate::clean::clean;
 use crate::disk::Disk;
@@ -143,7 +143,7 @@ fn told(mut names: Vec<Bytes>, stuck: Stuck) -> RecoveryFault
 ///
 /// What the folder's list names is brought to the disk first, so nothing is asked of it. Of the other files none is opened.
 ///
-/// `BadList` where the folder's list is none that a set has written: then nothing is touched. `Unreplaced` tells the name of a
+/// `BadList` where the folder's list is none that a set has written, or was cut: then nothing is touched. `Unreplaced` tells the name of a
 /// new file that can't take its place, `Failed` that the disk failed elsewhere, `NoMemory` that memory was refused.
 pub fn recover<D: Disk>(alloc: Global, disk: &mut D) -> Result<(), RecoveryFault>
     ensures done { D.meaning.keeps_promises → OnOk result ((n : Name) → D.meaning.seen disk.new n ≡ recovered (D.meaning.seen disk.old) n) }
@@ -158,6 +158,9 @@ pub fn recover<D: Disk>(alloc: Global, disk: &mut D) -> Result<(), RecoveryFault
     ensures bad_list { D.meaning.keeps_promises → (result ≡ Err R.BadList) → HasBadList (D.meaning.seen disk.old) }
     ensures refused { D.meaning.keeps_promises → HasBadList (D.meaning.seen disk.old) → IsErr result }
     ensures untouched { D.meaning.keeps_promises → HasBadList (D.meaning.seen disk.old) → D.meaning.seen disk.new ≡ D.meaning.seen disk.old }
+    // So is one of which bytes at its end are gone, also where it ends behind a name's line.
+    ensures cut { D.meaning.keeps_promises → HasCutList (D.meaning.seen disk.old) → IsErr result }
+    ensures cut_untouched { D.meaning.keeps_promises → HasCutList (D.meaning.seen disk.old) → D.meaning.seen disk.new ≡ D.meaning.seen disk.old }
     ensures unreplaced { D.meaning.keeps_promises → (name : Name) → (result ≡ Err (R.Unreplaced name)) → is_listed (D.meaning.seen disk.old) name ≡ true }
     ensures cause { HasDiskCause D.meaning disk.old disk.new (IsDiskFailure result) }
 {

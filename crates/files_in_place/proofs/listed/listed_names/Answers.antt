@@ -1,5 +1,5 @@
 use Rattle.std.proofs.Common.{◌≡◌, None, Some, List, ℕ, IfOk, sym, ◌∙◌, ap, subst}
-use Rattle.files_in_place.specs.Folder.{Name, list_name, lines_of, names_in}
+use Rattle.files_in_place.specs.Folder.{Name, list_name, names_of, names_in}
 use Rattle.files_in_place.specs.Staged.{IsList}
 use Rattle.files_in_place.proofs.Uncommitted.{some_inj, none_some}
 use Rattle.files_in_place.proofs.listed.listed_names.Goals as goal
@@ -8,7 +8,7 @@ pub returns-in-Some-clause-names : goal.returns-in-Some-clause-names
 returns-in-Some-clause-names g c promised =
     let m = g.D.Disk.meaning in
     let content : m.seen c.args.disk.now list_name ≡ Some c.in-Some.list = sym (rw c.in-Some.is at (c.in_ok-list.ensures.content promised)) in
-    let same : lines_of c.as_slice.result.now ≡ names_in (m.seen c.args.disk.now list_name) = ap lines_of c.as_slice.ensures.value ∙ ap names_in (sym content) in
+    let same : names_of c.as_slice.result.now ≡ names_in (m.seen c.args.disk.now list_name) = ap names_of c.as_slice.ensures.value ∙ ap names_in (sym content) in
     subst (λ (lines : List Name). IfOk c.names_of_list.result (λ names. names.items ≡ lines)) same c.names_of_list.ensures.names
 
 pub returns-in-Some-clause-bad_list : goal.returns-in-Some-clause-bad_list

@@ -1,5 +1,5 @@
-use Rattle.std.proofs.Common.{◌≡◌, true, List, ap, ◌∙◌, inl, inr}
-use Rattle.std.proofs.lemmas.Bool.{cases_Bool}
+use Rattle.std.proofs.Common.{◌≡◌, true, false, List, refl, ap, ◌∙◌, inl, inr}
+use Rattle.std.proofs.lemmas.Bool.{cases_Bool, both_ways}
 use Rattle.std.specs.List.{list_any}
 use Rattle.std.specs.Str.{bytes_eq}
 use Rattle.files_in_place.specs.Folder.{Name, temporary, list_name, names_in, is_listed}
@@ -9,6 +9,7 @@ use Rattle.files_in_place.proofs.Runs.{and_then}
 use Rattle.files_in_place.proofs.Meaning.{still_step}
 use Rattle.files_in_place.proofs.Ending.{listed_at, listed_contained}
 use Rattle.files_in_place.proofs.Settling.{leaves_same, leaves_less, leaves_less_on, run_less}
+use Rattle.files_in_place.proofs.CutLists.{cut_bad}
 use Rattle.files_in_place.proofs.recovery.recover.Goals as goal
 
 pub returns-in-Ok-clause-any_moment : goal.returns-in-Ok-clause-any_moment
@@ -42,3 +43,14 @@ pub returns-in-Err-clause-unreplaced : goal.returns-in-Err-clause-unreplaced
 returns-in-Err-clause-unreplaced g c promised name is =
     let which : c.told.result ≡ Unreplaced name = cc is in
     listed_contained c.in_ok-names.names.items (g.D.Disk.meaning.seen c.args.disk.now) name (c.in_ok-names.ensures.names promised) (c.told.ensures.unreplaced name which).1
+
+pub returns-in-Ok-clause-cut : goal.returns-in-Ok-clause-cut
+returns-in-Ok-clause-cut g c promised cut = c.in_ok-names.ensures.refused promised (cut_bad (g.D.Disk.meaning.seen c.args.disk.now) cut)
+
+pub returns-in-Ok-clause-cut_untouched : goal.returns-in-Ok-clause-cut_untouched
+returns-in-Ok-clause-cut_untouched g c promised cut =
+    absurd (both_ways false refl (c.in_ok-names.ensures.refused promised (cut_bad (g.D.Disk.meaning.seen c.args.disk.now) cut)))
+
+pub returns-in-Err-clause-cut_untouched : goal.returns-in-Err-clause-cut_untouched
+returns-in-Err-clause-cut_untouched g c promised cut =
+    absurd (both_ways false refl (c.in_ok-names.ensures.refused promised (cut_bad (g.D.Disk.meaning.seen c.args.disk.now) cut)))

@@ -8,4 +8,4 @@ returns-clause-synced g c =
     let said = g.R.SystemCalls.answers in
     let folder : c.as_str.result.now ≡ c.args.self.now.path = search rules in
     let P : List ℕ → Type 0 = λ path. OnOk c.sync_each-outcome.result (All (λ name. HasSynced said (path ++ name) ⊎ HasNoBytes said (path ++ name)) c.args.names.now) in
-    rw c.told.ensures.same (subst P folder c.sync_each-outcome.ensures.synced)
+    rw c.told_of_sync.ensures.same (subst P folder c.sync_each-outcome.ensures.synced)
