@@ -1,4 +1,6 @@
 pub mod GateLaws
+mod SumLaws
+mod LineLaws
 mod Tearing
 pub mod Reading
 pub mod Putting

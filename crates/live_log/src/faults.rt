@@ -1,7 +1,7 @@
-//! Why a log took no group.
+//! Why a log took no group, or was not read.
 
 use files_in_place::DiskFault;
-use std::alloc::AllocError;
+use std::alloc::{AllocError, AllocFailed};
 use thiserror::Error;
 
 /// Why a log took no group.
@@ -19,6 +19,40 @@ pub enum LogFault {
     /// The disk failed.
     #[error("the disk failed")]
     Failed,
+}
+
+/// Why a log was not read.
+#[derive(Clone, Copy, Debug, PartialEq, Eq, Error)]
+pub enum ReadFault {
+    /// Somebody has changed the log, or it is no log: the entry of this number, counted from 1, is the first that does not stand in it as
+    /// it was put.
+    #[error("entry {0} of the log is changed")]
+    Changed(u64),
+    /// Memory was refused.
+    #[error("out of memory")]
+    NoMemory,
+}
+
+impl From<AllocError> for ReadFault {
+    ghost use Rattle.std.specs.Prelude.{◌≡◌};
+    ghost use Rattle.live_log.specs.declared.faults.ReadFault.TheVariants.{NoMemory};
+
+    ghost from_gives = { λ _ e. e ≡ NoMemory };
+
+    fn from(_: AllocError) -> Self {
+        ReadFault::NoMemory
+    }
+}
+
+impl<T: Drop> From<AllocFailed<T>> for ReadFault {
+    ghost use Rattle.std.specs.Prelude.{◌≡◌};
+    ghost use Rattle.live_log.specs.declared.faults.ReadFault.TheVariants.{NoMemory};
+
+    ghost from_gives = { λ _ e. e ≡ NoMemory };
+
+    fn from(_: AllocFailed<T>) -> Self {
+        ReadFault::NoMemory
+    }
 }
 
 impl From<AllocError> for LogFault {

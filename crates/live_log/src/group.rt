@@ -8,14 +8,15 @@ ghost use Rattle.station_lines.specs.JournalLines.{line_parts, HaveSmallNumbers}
 ghost use Rattle.live_log.specs.Gates.{LineParts, log_of, IsGroup};
 ghost use Rattle.live_log.specs.Logs.{HasLog, IsBetweenGroups, IsLogPut};
 
-use crate::gates::{OPEN_GATE, SHUT_GATE};
+use crate::gates::SHUT_GATE;
+use crate::lines::append_line;
 use catalogue_core::Entry;
 use disk_in_place::{DiskInPlace, write_synced};
 use files_in_place::DiskFault;
 use station_lines::EntryLine;
 use std::alloc::{AllocError, Global};
 
-// The lines of entries, each after an open gate, and a shut gate.
+// The lines of entries, each with its sum after an open gate, and a shut gate.
 pub(crate) fn group_bytes(alloc: Global, entries: &[Entry]) -> Result<Vec<u8>, AllocError>
     ensures bytes { IfOk result (λ bytes. bytes.items ≡ log_of (map line_parts entries.now)) }
     // A line was made of each entry, so its numbers are of 64 bits.
@@ -25,8 +26,7 @@ pub(crate) fn group_bytes(alloc: Global, entries: &[Entry]) -> Result<Vec<u8>, A
     let mut line = EntryLine::new(alloc);
     for entry in entries {
         let text = line.of(entry.station, &entry.command, &entry.answer)?;
-        bytes.push(OPEN_GATE)?;
-        bytes.extend_from_slice(text)?;
+        append_line(&mut bytes, text)?;
     }
     bytes.push(SHUT_GATE)?;
     Ok(bytes)

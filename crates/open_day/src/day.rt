@@ -6,19 +6,17 @@ ghost use Rattle.files_in_place.specs.Disk.{HasDiskCause, OnlyReads};
 ghost use Rattle.open_day.specs.OpenDay.{has_open_day, is_open_log};
 
 use files_in_place::{Disk, DiskFault};
+use live_log::SHUT_GATE;
 use std::alloc::Global;
 
 /// The name of the file of a live day's log, in the folder for its files.
 pub const LOG_NAME: &[u8] = b"STATIONS.LOG";
 
-// The log without entries.
-const EMPTY_LOG: &[u8] = b"-";
-
-/// Whether this is the log of a day that is open: any but the log without entries.
+/// Whether this is the log of a day that is open: that of a closed one begins with the shut gate, and nothing counts after that.
 pub fn is_open(log: &[u8]) -> bool
     ensures value { result ≡ is_open_log log.now }
 {
-    log != EMPTY_LOG
+    !matches!(log, [SHUT_GATE, ..])
 }
 
 /// Whether a day is open in the folder of a disk. An error where the disk fails or memory is refused.

@@ -1,5 +1,5 @@
 -- What is found at the entries of a setup.
-use Rattle.std.specs.Prelude.{◌≡◌, ℕ, Bool, true, false, List, [], ◌∷◌, ◌++◌, length, slice_get, count_by, Option, Some, None, Result, Ok, Err}
+use Rattle.std.specs.Prelude.{◌≡◌, ℕ, List, [], ◌∷◌, ◌++◌, length, slice_get, count_by, Option, Some, None, Result, Ok, Err}
 use Rattle.std.specs.List.{position}
 use Rattle.dbf_image.specs.Growing.{Growing}
 use Rattle.dbf_image.specs.Table.{Table as Content}
@@ -18,7 +18,7 @@ use Rattle.setup_check.specs.declared.finding.Finding.TheVariants as found
 use Rattle.setup_check.specs.declared.finding.IndexFinding.{IndexFinding}
 use Rattle.setup_check.specs.declared.finding.TableCounts.{TableCounts}
 use Rattle.setup_check.specs.declared.freshness.IndexState.{IndexState}
-use Rattle.setup_check.specs.declared.freshness.IndexState.TheVariants.{Fresh, NoTable as HasNoTable}
+use Rattle.setup_check.specs.declared.freshness.IndexState.TheVariants.{NoTable as HasNoTable}
 use Rattle.setup_check.specs.Freshness.{IsIndexState}
 
 -- all records, and those that are marked as deleted
@@ -94,14 +94,3 @@ AreFoundOf [] [] = Unit {0}
 AreFoundOf [] (finding ∷ findings) = ⊥
 AreFoundOf (read ∷ reads) [] = ⊥
 AreFoundOf (read ∷ reads) (finding ∷ findings) = IsFoundOf read finding × AreFoundOf reads findings
-
--- the index is the table's as it is
-abbrev pub is_fresh : IndexState → Bool
-is_fresh Fresh = true
-is_fresh _ = false
-
--- the files of the entry are good
-abbrev pub is_good : Finding → Bool
-is_good (found.Refused fault) = false
-is_good (found.Index index) = is_fresh index.state
-is_good finding = true

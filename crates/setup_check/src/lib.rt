@@ -27,7 +27,7 @@ pub use finding::{Finding, IndexFinding, Looked, TableCounts};
 pub use freshness::IndexState;
 pub use kept_lines::kept_files_text;
 pub use lines::findings_text;
-pub use look::{all_are_good, look_at_all};
+pub use look::look_at_all;
 pub use open_days::{LogFinding, open_days_text};
 pub use scripts::{BadLinesTold, bad_setup_text, scripts_text};
 pub use wrong_pair::WrongPair;

@@ -1,13 +1,12 @@
 //! A look at what each entry of a setup names.
 
 ghost use Rattle.std.specs.Prelude.{◌≡◌, ℕ, List, [], Option, MatchOption, length, IfOk, IsOk, option_copied};
-ghost use Rattle.std.specs.List.{list_all};
 ghost use Rattle.folders.specs.declared.named.NamedFile.{NamedFile};
 ghost use Rattle.station_lines.specs.declared.setup.entry.SetupEntry.{SetupEntry as Entry};
 ghost use Rattle.setup_files.specs.EntryFiles.{AreEntriesRead, IsContentOf, IsEntryRead, IsIndexOfFile};
 ghost use Rattle.setup_files.specs.Loads.{AreEntryLoads};
 ghost use Rattle.setup_check.specs.declared.finding.Finding.{Finding as Found};
-ghost use Rattle.setup_check.specs.Findings.{first_table, table_in, is_fresh as is_fresh_state, is_good as is_good_one, IsCounts};
+ghost use Rattle.setup_check.specs.Findings.{first_table, table_in, IsCounts};
 ghost use Rattle.setup_check.specs.TablePlaces.{ArePlacesIn};
 ghost use Rattle.setup_check.specs.Findings.{AreFindings, AreFoundOf, IsBeside, IsFinding, IsFoundOf, IsIndexFinding, IsNamed, IsRefusedAt};
 
@@ -173,27 +172,4 @@ pub fn look_at_all<S: Source>(
         tables.add(alloc, entry, index)?;
     }
     Ok(Looked { findings, reads })
-}
-
-fn is_good(finding: &Finding) -> bool
-    ensures value { result ≡ is_good_one finding.now }
-{
-    match finding {
-        Finding::Refused(_) => false,
-        Finding::Index(index) => is_fresh(&index.state),
-        _ => true,
-    }
-}
-
-fn is_fresh(state: &IndexState) -> bool
-    ensures value { result ≡ is_fresh_state state.now }
-{
-    matches!(state, IndexState::Fresh)
-}
-
-/// Whether nothing is refused, and each index is its table's.
-pub fn all_are_good(findings: &[Finding]) -> bool
-    ensures value { result ≡ list_all is_good_one findings.now }
-{
-    findings.iter().all(|finding| is_good(finding))
 }

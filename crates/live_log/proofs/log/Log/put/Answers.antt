@@ -1,7 +1,8 @@
 use Rattle.std.proofs.Common.{map, sym, ◌∙◌, subst, arith}
 use Rattle.station_lines.specs.JournalLines.{line_parts}
 use Rattle.live_log.specs.Logs.{LogValue, HasLog}
-use Rattle.live_log.proofs.Putting.{too_long}
+use Rattle.files_in_place.specs.Disk.{IsSyncedDisk}
+use Rattle.live_log.proofs.Putting.{nothing_put, too_long}
 use Rattle.live_log.proofs.GroupLaws.{is_group}
 use Rattle.live_log.proofs.log.Log.put.Goals as goal
 
@@ -15,3 +16,15 @@ returns-then-group-self-clause-too_long g c keeps is before log =
     let here : HasLog c.self.inside.name before (m.seen c.self.inside.disk) = subst (λ (l : LogValue _). HasLog l.name before (m.seen l.disk)) (sym c.self.view_is) log in
     let group = is_group c.args.entries.now c.as_slice-group.result.now (c.as_slice-group.ensures.value ∙ c.in_ok-bytes.ensures.bytes) c.in_ok-bytes.ensures.small c.requires.some in
     too_long m c.self.inside.name c.self.inside.offset c.self.inside.disk (c.self.invariant keeps c.if-not-self.false) before (map line_parts c.args.entries.now) c.as_slice-group.result.now here group (omega arith)
+
+pub returns-in_err-bytes-clause-any_moment : goal.returns-in_err-bytes-clause-any_moment
+returns-in_err-bytes-clause-any_moment g c keeps takes before log =
+    let m = g.D.Disk.meaning in
+    let synced = subst (λ (l : LogValue _). IsSyncedDisk m l.disk) c.self.view_is (c.self.invariant keeps c.if-not-self.false).synced in
+    nothing_put m c.args.self.now.name c.args.self.now.disk before (map line_parts c.args.entries.now) synced log
+
+pub returns-then-group-self-clause-any_moment : goal.returns-then-group-self-clause-any_moment
+returns-then-group-self-clause-any_moment g c keeps takes before log =
+    let m = g.D.Disk.meaning in
+    let synced = subst (λ (l : LogValue _). IsSyncedDisk m l.disk) c.self.view_is (c.self.invariant keeps c.if-not-self.false).synced in
+    nothing_put m c.args.self.now.name c.args.self.now.disk before (map line_parts c.args.entries.now) synced log

@@ -1,5 +1,5 @@
-use Rattle.live_log.proofs.GateLaws.{line_first}
-use Rattle.live_log.proofs.gates.cut_line.Goals as goal
+use Rattle.live_log.proofs.LineLaws.{line_first}
+use Rattle.live_log.proofs.lines.cut_entry_line.Goals as goal
 
 pub returns-clause-found : goal.returns-clause-found
 returns-clause-found c =
