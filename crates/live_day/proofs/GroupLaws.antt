@@ -9,9 +9,10 @@ use Rattle.std.proofs.lemmas.Option.{get_or_from_slice_get, slice_get_read, slic
 use Rattle.catalogue_core.specs.Replay.{History}
 use Rattle.live_day.specs.declared.group.Front.{Front}
 use Rattle.live_day.specs.declared.keyboard.Typed.{Typed}
-use Rattle.live_day.specs.declared.keyboard.Typed.TheVariants.{Text, TooLong}
+use Rattle.live_day.specs.declared.keyboard.Typed.TheVariants.{Text, TooLong, Cut}
 use Rattle.live_day.specs.declared.notice.Notice.{Notice}
 use Rattle.live_day.specs.declared.notice.Notice.TheVariants.{NoMemory, JournalFull, NoStation}
+use Rattle.live_day.specs.declared.notice.Notice.TheVariants as notice
 use Rattle.live_day.specs.declared.typing.Then.{Then}
 use Rattle.live_day.specs.declared.typing.Then.TheVariants.{More, Over, Failed}
 use Rattle.live_day.specs.declared.waiting.WaitingAnswer.{WaitingAnswer}
@@ -40,6 +41,9 @@ no_quit_text typed line text quits is same value other = λ wish.
 pub no_quit_long : (typed : Typed) → typed ≡ TooLong → IsNoQuit typed
 no_quit_long typed is = λ wish. let e : Quit ≡ Perform = subst (λ (t : Typed). IsWishTyped t Quit) is wish in cc
 
+pub no_quit_cut : (typed : Typed) → typed ≡ Cut → IsNoQuit typed
+no_quit_cut typed is = λ wish. let e : Quit ≡ Perform = subst (λ (t : Typed). IsWishTyped t Quit) is wish in cc
+
 -- a line that is none of these is performed
 pub performs_else : (typed : Typed) (wish : Wish) → IsNoQuit typed → IsWishTyped typed wish → (wish ≡ Perform) ⊎ (wish ≡ Quit) → IsWishTyped typed Perform
 performs_else typed wish unlike is either = elim either [
@@ -61,6 +65,7 @@ said_of : (typed : Typed) (h : History) (n : Notice) → IsLineRefused typed h n
 said_of typed h NoMemory is = tt
 said_of typed h JournalFull is = is.0
 said_of typed h NoStation is = absurd is
+said_of typed h notice.Cut is = tt
 
 pub refused_line : (station : ℕ) (typed : Typed) (wish : Wish) (h : History) (n : Notice) → IsNoQuit typed → IsWishTyped typed wish → (wish ≡ Perform) ⊎ (wish ≡ Quit) → IsLineRefused typed h n
     → IsRefused station typed h n
@@ -128,13 +133,13 @@ obeyed_after lines i line station old next mid told last new more inside is are 
 -- then the station is told so, and the line is obeyed
 pub obeyed_first : (station : ℕ) (lines : List Typed) (old : History) (front : Front) (now : History) (n : Notice) → front.count ≡ 0 → IsNextRefused lines front now n
     → AreObeyed (take front.count lines) station old front.station now (all_told_by front.answers.items)
-    → AreObeyed (take 1 lines) station old front.station now (all_told_by front.answers.items ++ notice_told front.station n)
+    → AreObeyed (take 1 lines) station old front.station now (all_told_by front.answers.items ++ notice_told front.station now n)
 obeyed_first station lines old front now n none next are =
     let typed = next.typed in
     let is : typed ≡ get_or lines front.count typed = sym (get_or_from_slice_get lines front.count typed typed next.next) in
     let one : front.count + 1 ≡ 1 = omega (arith, none) in
-    subst (λ (k : ℕ). AreObeyed (take k lines) station old front.station now (all_told_by front.answers.items ++ notice_told front.station n)) one
-    (obeyed_after lines front.count typed station old front.station now (all_told_by front.answers.items) front.station now (notice_told front.station n)
+    subst (λ (k : ℕ). AreObeyed (take k lines) station old front.station now (all_told_by front.answers.items ++ notice_told front.station now n)) one
+    (obeyed_after lines front.count typed station old front.station now (all_told_by front.answers.items) front.station now (notice_told front.station now n)
     (slice_get_within lines front.count typed next.next) is are next.refused.obeyed)
 
 -- The lines were obeyed up to these, one after another, and what they were answered was told.

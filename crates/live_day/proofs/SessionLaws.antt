@@ -19,8 +19,8 @@ tells_none shown = record { lines = []; more = sym (append-nil shown); told_is =
 
 -- a line that is this text
 pub tells_line : {D : Type 0} (m : DiskMeaning D) (day : DayValue D) (station : ℕ) (line text : List ℕ) (shown shown_then : List ShownLine) → line ≡ text
-    → shown_then ≡ shown ++ shown_now m day station line ∷ [] → TellsMore shown shown_then (one_told station text)
-tells_line m day station line text shown shown_then is more = record { lines = shown_now m day station line ∷ []; more = more; told_is = ap (one_told station) (sym is) }
+    → shown_then ≡ shown ++ shown_now m day station line ∷ [] → TellsMore shown shown_then (one_told station day.history text)
+tells_line m day station line text shown shown_then is more = record { lines = shown_now m day station line ∷ []; more = more; told_is = ap (one_told station day.history) (sym is) }
 
 pub tells_both : (x y z : List ShownLine) (a b : List Told) → TellsMore x y a → TellsMore y z b → TellsMore x z (a ++ b)
 tells_both x y z a b first second = record {

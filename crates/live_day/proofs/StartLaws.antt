@@ -6,8 +6,21 @@ use Rattle.station_lines.specs.JournalLines.{entry_and, lines_and, line_parts, H
 use Rattle.station_lines.proofs.JournalLaws.{entry_small, lines_one}
 use Rattle.audit.specs.Audits.{IsJournalOf}
 use Rattle.live_log.specs.Gates.{LineParts, log_of, StandsFor, IsLogText}
+use Rattle.live_log.specs.Gates.{IsLogUnread}
+use Rattle.live_log.specs.declared.faults.ReadFault.{ReadFault}
+use Rattle.live_log.specs.declared.faults.ReadFault.TheVariants as of_read
 use Rattle.live_log.proofs.GateLaws.{entry_then}
 use Rattle.live_day.specs.Days.{parts_of}
+use Rattle.live_day.specs.Starts.{IsLogFault, read_fault_of}
+use Rattle.live_day.specs.declared.start_fault.StartFault.{StartFault}
+
+-- a log that is not read is not performed once more
+read_told : (opened : Opened) (log : List ℕ) (fault : ReadFault) → IsLogUnread log fault → IsLogFault opened log (read_fault_of fault)
+read_told opened log (of_read.Changed number) is = is
+read_told opened log of_read.NoMemory is = tt
+
+pub unread : (opened : Opened) (log : List ℕ) (fault : ReadFault) (why : StartFault) → IsLogUnread log fault → why ≡ read_fault_of fault → IsLogFault opened log why
+unread opened log fault why is told = subst (λ (w : StartFault). IsLogFault opened log w) (sym told) (read_told opened log fault is)
 
 small_parts : (journal : List Entry) (opened : Opened) → AreOfStations opened journal → opened.stations < 2 ^ 64 → length (lines_and (map line_parts journal) []) < 2 ^ 64 → HaveSmallNumbers (map line_parts journal)
 small_parts [] opened of bound long = tt

@@ -44,8 +44,10 @@ all_wait_more old new on answers next answer is all one =
 pub waits_none : (waiting next : List WaitingAnswer) → next ≡ waiting → WaitsToTell waiting next []
 waits_none waiting next is = record { answers = []; more = is ∙ sym (append-nil waiting); told_is = refl }
 
-pub waits_one : (waiting next : List WaitingAnswer) (answer : WaitingAnswer) → next ≡ waiting ++ answer ∷ [] → WaitsToTell waiting next (one_told answer.station answer.line)
-waits_one waiting next answer is = record { answers = answer ∷ []; more = is; told_is = refl }
+pub waits_one : (waiting next : List WaitingAnswer) (answer : WaitingAnswer) (h : History) → answer.count ≡ length h.journal → next ≡ waiting ++ answer ∷ []
+    → WaitsToTell waiting next (one_told answer.station h answer.line)
+waits_one waiting next answer h counted is =
+    record { answers = answer ∷ []; more = is; told_is = ap (λ (n : ℕ). (answer.station, n, answer.line) ∷ []) (sym counted) }
 
 -- all that will be told then
 pub told_then : (waiting next : List WaitingAnswer) (told : List Told) → WaitsToTell waiting next told → all_told_by next ≡ all_told_by waiting ++ told

@@ -18,7 +18,7 @@ IsNoQuit typed = ¬ (IsWishTyped typed Quit)
 
 -- an answer that waits, as it will be told
 abbrev pub told_by : WaitingAnswer → Told
-told_by answer = (answer.station, answer.line)
+told_by answer = (answer.station, answer.count, answer.line)
 
 -- answers that wait, as they will be told
 abbrev pub all_told_by : List WaitingAnswer → List Told
@@ -33,7 +33,7 @@ pub record WaitsToTell (waiting waiting_then : List WaitingAnswer) (told : List 
 -- nothing is performed of the line, and where the station is told this it is obeyed
 pub record IsRefused (station : ℕ) (typed : Typed) (h : History) (n : Notice) : Type 0 where
   pub said : MayBeSaid h n
-  pub obeyed : IsObeyed station typed h station h (notice_told station n)
+  pub obeyed : IsObeyed station typed h station h (notice_told station h n)
 
 -- a line was obeyed, and its answer waits; or nothing was performed of it
 abbrev pub HasMade : ℕ → Typed → History → History → List WaitingAnswer → List WaitingAnswer → Result ℕ Notice → Type 0

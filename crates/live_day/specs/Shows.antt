@@ -22,6 +22,7 @@ abbrev pub notice_text : Notice → List ℕ
 notice_text notice.NoMemory = codes "NOT PERFORMED: OUT OF MEMORY"
 notice_text notice.JournalFull = codes "NOT PERFORMED: THE JOURNAL IS FULL"
 notice_text notice.NoStation = codes "NO SUCH STATION"
+notice_text notice.Cut = codes "NOT PERFORMED: THE LINE WAS CUT"
 
 -- what may be said where nothing was performed: that the journal is full, only where it is
 abbrev pub MayBeSaid : History → Notice → Type 0

@@ -1,21 +1,28 @@
 -- The lines of a text, as they are typed.
 use Rattle.std.specs.Prelude.{◌≡◌, ◌⊎◌, ◌≤◌, ◌<◌, ◌+◌, ◌^◌, ℕ, List, [], ◌∷◌, ◌++◌, length, ⊤, Option, Some, None, OnSome}
 use Rattle.std.specs.Io.KnownBytes.{IsAtEnd}
-use Rattle.station_lines.specs.Script.Lines.{BeginsWithLine}
+use Rattle.station_lines.specs.Script.Lines.{lf, cr_lf, none, BeginsWithLine, Ending}
 use Rattle.live_day.specs.declared.keyboard.Typed.{Typed}
-use Rattle.live_day.specs.declared.keyboard.Typed.TheVariants.{Text, TooLong}
+use Rattle.live_day.specs.declared.keyboard.Typed.TheVariants.{Text, TooLong, Cut}
 use Rattle.live_day.specs.declared.keyboard.TheConstants.{MAX_LINE_BYTES}
 
 -- a line as it is typed: its bytes, or that it has too many
 abbrev pub IsLineTyped : List ℕ → Typed → Type 0
 IsLineTyped line (Text bytes) = (bytes ≡ line) × (length line ≤ MAX_LINE_BYTES)
 IsLineTyped line TooLong = MAX_LINE_BYTES < length line
+IsLineTyped line Cut = ⊥
+
+-- a line as it is typed, by its ending: one without an ending was cut
+abbrev pub IsTypedAs : Ending → List ℕ → Typed → Type 0
+IsTypedAs lf line typed = IsLineTyped line typed
+IsTypedAs cr_lf line typed = IsLineTyped line typed
+IsTypedAs none line typed = typed ≡ Cut
 
 -- the text's first line was typed, and this stands after it
 pub record TypesFirst (text : List ℕ) (typed : Typed) (rest : List ℕ) : Type 0 where
   pub line : List ℕ
   pub first : BeginsWithLine text line rest
-  pub typed_is : IsLineTyped line typed
+  pub typed_is : IsTypedAs first.ending line typed
 
 -- A line was typed of a text: its first one, or none where nothing is left of it. Of a text that isn't known nothing is said.
 abbrev pub TypesNext : Option (List ℕ) → Option Typed → Option (List ℕ) → Type 0

@@ -25,7 +25,7 @@ fn notify<D: DiskInPlace + Drop, S: Screen<D>>(
 ) -> Result<(), RunFault>
     requires takes { day.now.takes ≡ true }
     requires said { MayBeSaid day.now.history notice }
-    ensures told { OnOk result (TellsMore (S.shown screen.old) (S.shown screen.new) (notice_told station notice)) }
+    ensures told { OnOk result (TellsMore (S.shown screen.old) (S.shown screen.new) (notice_told station day.now.history notice)) }
     ensures fault { IfErr result (λ fault. fault ≡ RunFault.Screen) }
     ensures failed { OnErr result (S.has_failed screen.new) }
     ensures kept { KeepsShown D.meaning day.now day.now (S.shown screen.old) (S.shown screen.new) }
@@ -36,13 +36,14 @@ fn notify<D: DiskInPlace + Drop, S: Screen<D>>(
     Ok(())
 }
 
-/// What a typed line asks for: one that is too long, nothing of the keyboard.
+/// What a typed line asks for: one that is too long or was cut, nothing of the keyboard.
 pub(crate) fn wish_typed(typed: &Typed) -> Wish
     ensures value { IsWishTyped typed.now result }
 {
     match typed {
         Typed::Text(line) => wish_of(line.as_slice()),
         Typed::TooLong => Wish::Perform,
+        Typed::Cut => Wish::Perform,
     }
 }
 

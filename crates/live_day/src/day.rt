@@ -144,7 +144,8 @@ impl<D: DiskInPlace + Drop> Day<D> {
         }
     }
 
-    // Performs what a typed line of a station means, and puts nothing to the log: one that is too long can't be read.
+    // Performs what a typed line of a station means, and puts nothing to the log: one that is too long can't be read, one that was cut means
+    // nothing.
     pub(crate) fn perform_typed(
         &mut self,
         station: u32,
@@ -163,12 +164,13 @@ impl<D: DiskInPlace + Drop> Day<D> {
         match typed {
             Typed::Text(line) => self.perform_text(station, line.as_slice()),
             Typed::TooLong => self.perform_meaning(station, &Line::Run(Command::Bad)),
+            Typed::Cut => Ok(None),
         }
     }
 
     /// Performs the first of these lines that are there together, or of one alone, beginning with those of a station, and puts the entries
     /// of all to the log as one group. At `Ok` they are on the disk, and only then the answers are given back. A line of which nothing was
-    /// performed ends the group: want of memory, a full journal, a station that is not there.
+    /// performed ends the group: want of memory, a full journal, a station that is not there, a line that was cut.
     ///
     /// An error where something was performed that may not be in the log: then the day takes no more lines, and none of the group was
     /// answered.

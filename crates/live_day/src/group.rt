@@ -1,11 +1,12 @@
 //! Lines that are there together are performed one after another, before the entries of all are put to the log as one group.
 
-ghost use Rattle.std.specs.Prelude.{◌≡◌, ◌≤◌, false, List, Ok, None, IfErr, IfOk, IfSome, OnOk, OnErr};
+ghost use Rattle.std.specs.Prelude.{◌≡◌, ◌≢◌, ◌≤◌, true, false, List, Ok, None, IfErr, IfOk, IfSome, OnOk, OnErr};
 ghost use Rattle.std.specs.List.{AllByRecursion};
 ghost use Rattle.live_day.specs.Days.{HasPerformedSince};
 ghost use Rattle.live_day.specs.Groups.{HasMade, IsFrontObeyed, IsNoQuit, WaitsToTell};
 ghost use Rattle.live_day.specs.Sessions.{Told, IsLineAnswered, IsLineRefused};
 ghost use Rattle.live_day.specs.Waiting.{IsWaiting};
+ghost use Rattle.live_day.specs.declared.keyboard.Typed.TheVariants.{Cut};
 
 use crate::answering::wish_typed;
 use crate::day::Day;
@@ -31,6 +32,14 @@ pub struct Front {
     pub stopped: Option<Notice>,
 }
 
+// Whether a typed line was cut.
+fn is_cut(typed: &Typed) -> bool
+    ensures yes { result ≡ true → typed.now ≡ Cut }
+    ensures no { result ≡ false → typed.now ≢ Cut }
+{
+    matches!(typed, Typed::Cut)
+}
+
 // Performs a typed line, and adds its answer to those that wait. Answers what its station is to be told where nothing was performed.
 fn perform_waiting<D: DiskInPlace + Drop>(
     day: &mut Day<D>,
@@ -50,6 +59,9 @@ fn perform_waiting<D: DiskInPlace + Drop>(
     ensures ended { OnErr result (day.new.takes ≡ false) }
     ensures fault { IfErr result (λ fault. fault ≡ LogFault.NoMemory) }
 {
+    if is_cut(typed) {
+        return Ok(Some(Notice::Cut));
+    }
     let Ok(()) = answers.reserve(1) else {
         return Ok(Some(Notice::NoMemory));
     };

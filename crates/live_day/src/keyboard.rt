@@ -18,6 +18,8 @@ pub enum Typed {
     Text(Bytes),
     /// A line that has more bytes. It is skipped.
     TooLong,
+    /// The last bytes of a text, which no LF ends: the line was cut, as by a connection that broke. It is not performed.
+    Cut,
 }
 
 /// Why there is no line.

@@ -12,6 +12,8 @@ pub enum Notice {
     JournalFull,
     /// No station has the number.
     NoStation,
+    /// The line was cut.
+    Cut,
 }
 
 /// The line that says it. Takes no memory.
@@ -22,5 +24,6 @@ pub(crate) fn notice_line(notice: Notice) -> &'static [u8]
         Notice::NoMemory => b"NOT PERFORMED: OUT OF MEMORY",
         Notice::JournalFull => b"NOT PERFORMED: THE JOURNAL IS FULL",
         Notice::NoStation => b"NO SUCH STATION",
+        Notice::Cut => b"NOT PERFORMED: THE LINE WAS CUT",
     }
 }

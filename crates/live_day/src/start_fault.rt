@@ -1,30 +1,30 @@
 //! Why a day did not start.
 
 use audit::AuditFault;
-use files_in_place::DiskFault;
-use std::alloc::AllocError;
+use live_log::ReadFault;
 
 /// Why what a log says was not performed once more.
 #[derive(Debug, PartialEq, Eq, Drop)]
 pub enum StartFault {
-    /// What stands after an open gate of the log is no entry's line.
-    Changed,
+    /// Somebody has changed the log, or it is no log: the entry of this number is the first that does not stand in it as it was put.
+    Changed(u64),
     /// An entry does not hold.
     Audit(AuditFault),
     /// Memory was refused.
     NoMemory,
-    /// The disk failed.
-    Failed,
 }
 
-impl From<AllocError> for StartFault {
+impl From<ReadFault> for StartFault {
     ghost use Rattle.std.specs.Prelude.{◌≡◌};
-    ghost use Rattle.live_day.specs.declared.start_fault.StartFault.TheVariants.{NoMemory};
+    ghost use Rattle.live_day.specs.Starts.{read_fault_of};
 
-    ghost from_gives = { λ _ fault. fault ≡ NoMemory };
+    ghost from_gives = { λ read fault. fault ≡ read_fault_of read };
 
-    fn from(_refused: AllocError) -> StartFault {
-        StartFault::NoMemory
+    fn from(fault: ReadFault) -> StartFault {
+        match fault {
+            ReadFault::Changed(number) => StartFault::Changed(number),
+            ReadFault::NoMemory => StartFault::NoMemory,
+        }
     }
 }
 
@@ -38,20 +38,6 @@ impl From<AuditFault> for StartFault {
         match fault {
             AuditFault::NoMemory => StartFault::NoMemory,
             other => StartFault::Audit(other),
-        }
-    }
-}
-
-impl From<DiskFault> for StartFault {
-    ghost use Rattle.std.specs.Prelude.{◌≡◌};
-    ghost use Rattle.live_day.specs.Starts.{start_fault_of};
-
-    ghost from_gives = { λ disk fault. fault ≡ start_fault_of disk };
-
-    fn from(fault: DiskFault) -> StartFault {
-        match fault {
-            DiskFault::NoMemory => StartFault::NoMemory,
-            DiskFault::Failed => StartFault::Failed,
         }
     }
 }

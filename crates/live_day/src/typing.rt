@@ -54,6 +54,7 @@ fn is_quit_typed(typed: &Typed) -> bool
     match typed {
         Typed::Text(line) => is_quit(line.as_slice()),
         Typed::TooLong => false,
+        Typed::Cut => false,
     }
 }
 

@@ -8,7 +8,7 @@ use Rattle.files_in_place.specs.Disk.{DiskMeaning}
 use Rattle.station_lines.specs.declared.script.format.TheConstants.{LF}
 use Rattle.std.specs.Prelude.{map, OnOk}
 use Rattle.live_day.specs.declared.keyboard.Typed.{Typed}
-use Rattle.live_day.specs.declared.keyboard.Typed.TheVariants.{Text, TooLong}
+use Rattle.live_day.specs.declared.keyboard.Typed.TheVariants.{Text, TooLong, Cut}
 use Rattle.live_day.specs.declared.waiting.WaitingAnswer.{WaitingAnswer}
 use Rattle.live_day.specs.Days.{DayValue}
 use Rattle.live_day.specs.Shows.{ShownLine}
@@ -18,6 +18,7 @@ use Rattle.live_program.specs.Consoles.{HasPrinted, numbers_of_shown, numbers_of
 typed_again : (t : Typed) → typed_of_numbers (numbers_of_typed t) ≡ t
 typed_again (Text line) = refl
 typed_again TooLong = refl
+typed_again Cut = refl
 
 -- one line more was typed
 pub typed_more : (lists : List (List ℕ)) (t : Typed) → map typed_of_numbers (lists ++ numbers_of_typed t ∷ []) ≡ map typed_of_numbers lists ++ t ∷ []

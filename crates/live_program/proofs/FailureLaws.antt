@@ -1,5 +1,5 @@
 -- Why a life failed, as its parts say it.
-use Rattle.std.proofs.Common.{◌≡◌, ◌∙◌, ◌∷◌, ◌++◌, Bool, true, List, ℕ, Option, Some, Result, Ok, Err, refl, sym, ap, arith, subst, inl, inr}
+use Rattle.std.proofs.Common.{◌≡◌, ◌∙◌, ◌∷◌, ◌++◌, Bool, true, List, ℕ, Option, Some, Result, Ok, Err, refl, sym, arith, subst, inl, inr}
 use Rattle.std.specs.Prelude.{⊤, IfErr, IsErr, IsErrAnd}
 use Rattle.std.specs.List.{Contains}
 use Rattle.std.proofs.lemmas.List.Elements.{Contains-append_right}
@@ -16,7 +16,14 @@ use Rattle.office_run.specs.declared.close_fault.CloseFault.TheVariants as close
 use Rattle.office_run.specs.declared.fault.ServeFault.{ServeFault}
 use Rattle.office_run.specs.declared.fault.ServeFault.TheVariants as serve
 use Rattle.program_frame.specs.Jobs.{given_up}
+use Rattle.program_frame.specs.declared.ending.Failure.{Failure}
 use Rattle.program_frame.specs.declared.ending.Failure.TheVariants as failure
+use Rattle.program_frame.specs.Endings.{place_failure}
+use Rattle.program_frame.specs.PlaceFaults.{unplaced_files}
+use Rattle.folders.specs.declared.finish_fault.FinishFault.{FinishFault}
+use Rattle.folders.specs.declared.finish_fault.FinishFault.TheVariants as finish
+use Rattle.live_log.specs.declared.faults.LogFault.TheVariants as log
+use Rattle.live_day.specs.declared.run_fault.RunFault.TheVariants as run
 use Rattle.live_day.specs.declared.run_fault.RunFault.{RunFault}
 use Rattle.live_day.specs.declared.start_fault.StartFault.{StartFault}
 use Rattle.live_day.specs.Starts.{IsLogFault}
@@ -24,7 +31,7 @@ use Rattle.live_log.specs.Gates.{or_empty_log}
 use Rattle.open_day.specs.OpenDay.{log_name}
 use Rattle.program_frame.specs.Placing.{IsRecovered}
 use Rattle.live_program.specs.Endings.{no_memory, run_failure}
-use Rattle.live_program.specs.Failures.{IsDayFailure, IsFileUnwritten, IsStopFailure, IsTableNamed, IsToldOf, IsUnstarted}
+use Rattle.live_program.specs.Failures.{IsDayFailure, IsFileUnwritten, IsStopFailure, IsTableNamed, IsToldOf, IsUnclosed, IsUnended, IsUnendedFrom, IsUnstarted}
 use Rattle.live_program.specs.declared.failure.LiveFailure.{LiveFailure}
 use Rattle.live_program.specs.declared.failure.LiveFailure.TheVariants as live
 use Rattle.live_program.specs.declared.options.Options.{Options}
@@ -94,3 +101,37 @@ told_on told told_then files options why on (inl tables) = inl tables
 told_on told told_then files options why on (inr (inl log)) =
     inr (inl (record { opened = log.opened; tables = log.tables; fault = log.fault; told = on log.opened log.fault log.told; why_is = log.why_is }))
 told_on told told_then files options why on (inr (inr unplaced)) = inr (inr unplaced)
+
+-- a day that was begun has not failed for want of its log's place
+stop_begun : (fault : RunFault) → run_failure fault ≡ live.Unstarted → ⊥
+stop_begun (run.Log log.NoMemory) is = cc
+stop_begun (run.Log log.Closed) is = cc
+stop_begun (run.Log log.TooLong) is = cc
+stop_begun (run.Log log.Failed) is = cc
+stop_begun run.Screen is = cc
+stop_begun run.Unread is = cc
+stop_begun run.NoMemory is = cc
+
+unplaced_begun : (fault : FinishFault) → place_failure no_memory (unplaced_files fault) ≡ failure.Work live.Unstarted → ⊥
+unplaced_begun finish.NoMemory is = cc
+unplaced_begun finish.Unwritten is = cc
+unplaced_begun finish.Unfinished is = cc
+
+work_is : (a b : LiveFailure) → failure.Work a ≡ failure.Work b → a ≡ b
+work_is a b is = cc
+
+unclosed_begun : (h : History) (today : Day) → IsUnclosed h today (failure.Work live.Unstarted) → ⊥
+unclosed_begun h today (inl is) =
+    let same : live.Serve is.1.0 ≡ live.Unstarted = sym is.1.2 ∙ sym (work_is live.Unstarted is.0 is.2) in
+    cc
+unclosed_begun h today (inr is) = unplaced_begun is.0 (sym is.1)
+
+unended_on : (is_told : RunFault → Type 0) (h : History) (today : Day) → IsUnended is_told h today (failure.Work live.Unstarted) → ⊥
+unended_on is_told h today (inl is) = stop_begun is.1.0 (sym is.1.2 ∙ sym (work_is live.Unstarted is.0 is.2))
+unended_on is_told h today (inr is) = unclosed_begun h today is
+
+pub unended_begun : {T : Type 0} (is_told : History → RunFault → Type 0) (opened : Opened) (today : Day) (r : Result T (Failure LiveFailure)) → r ≡ Err (failure.Work live.Unstarted)
+    → IfErr r (IsUnendedFrom is_told opened today) → ⊥
+unended_begun is_told opened today r is ended =
+    let from : IsUnendedFrom is_told opened today (failure.Work live.Unstarted) = subst (λ x. IfErr x (IsUnendedFrom is_told opened today)) is ended in
+    unended_on (is_told from.0) from.0 today from.2

@@ -1,12 +1,12 @@
 -- What is said at a start, station by station.
-use Rattle.std.proofs.Common.{◌≡◌, ◌≢◌, ◌∙◌, ℕ, ◌+◌, ◌<◌, List, [], ◌∷◌, ◌++◌, length, take, get_or, Option, None, Some, Result, Ok, Err, refl, sym, ap, subst, arith}
+use Rattle.std.proofs.Common.{◌≡◌, ◌≢◌, ◌∙◌, ℕ, zero, suc, ◌+◌, ◌<◌, List, [], ◌∷◌, ◌++◌, length, take, get_or, Option, None, Some, Result, Ok, Err, refl, sym, ap, subst, arith}
 use Rattle.std.specs.Prelude.{IfOk, OnOk}
 use Rattle.std.proofs.lemmas.List.{append-nil, take_more}
 use Rattle.std.specs.Io.KnownBytes.{Appends}
 use Rattle.catalogue_core.specs.declared.entry.Entry.{Entry}
 use Rattle.program_frame.proofs.Printing.{appends_then}
 use Rattle.live_program.proofs.FileLaws.{next_number}
-use Rattle.live_program.specs.Greetings.{again_line, again_text, last_entry, last_lines, last_said, or_before, own_entry}
+use Rattle.live_program.specs.Greetings.{again_line, again_text, earlier_line, earlier_text, last_entry, last_lines, last_said, or_before, own_entry, start_text}
 
 -- nothing was written
 pub appends_none : (o : Option (List ℕ)) → Appends o o []
@@ -58,6 +58,22 @@ again_then stations (e ∷ es) old mid new some first second =
 pub again_none : (stations : ℕ) (journal : List Entry) (o : Option (List ℕ)) → length journal ≡ 0 → Appends o o (again_text stations journal)
 again_none stations [] o none = appends_none o
 again_none stations (e ∷ es) o none = absurd (omega arith)
+
+-- of a day without a command nothing is said
+pub earlier_none : (earlier : ℕ) (o : Option (List ℕ)) → earlier ≡ 0 → Appends o o (earlier_text earlier)
+earlier_none zero o none = appends_none o
+earlier_none (suc n) o none = absurd (omega (arith, none))
+
+pub earlier_some : (earlier : ℕ) (old new : Option (List ℕ)) → earlier ≢ 0 → Appends old new (earlier_line earlier) → Appends old new (earlier_text earlier)
+earlier_some zero old new some said = absurd (some refl)
+earlier_some (suc n) old new some said = said
+
+-- both were put to a list
+pub start_said : (a b c : List ℕ) (earlier stations : ℕ) (journal : List Entry) → a ≡ [] → Appends (Some a) (Some b) (earlier_text earlier) → Appends (Some b) (Some c) (again_text stations journal)
+    → c ≡ start_text earlier stations journal
+start_said a b c earlier stations journal none first second =
+    let then_text : List ℕ = again_text stations journal in
+    second ∙ ap (λ (l : List ℕ). l ++ then_text) (first ∙ ap (λ (l : List ℕ). l ++ earlier_text earlier) none)
 
 -- what holds of what was printed holds with what follows from it
 pub told_as : {T E F : Type 0} (r : Result (Result T E) F) (P Q : Type 0) → (P → Q) → IfOk r (λ p. OnOk p P) → IfOk r (λ p. OnOk p Q)

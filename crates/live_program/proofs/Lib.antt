@@ -7,4 +7,6 @@ mod GreetingLaws
 mod LifeLaws
 mod NumberListLaws
 mod OpeningLaws
+pub mod PrintingLaws
 mod ReadingLaws
+mod SayingLaws

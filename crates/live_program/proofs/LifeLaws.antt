@@ -8,13 +8,13 @@ use Rattle.std.proofs.lemmas.Bool.{cases_Bool}
 use Rattle.std.proofs.lemmas.List.{append-nil, length-map, map-append}
 use Rattle.std.proofs.lemmas.Slice.Eq.{bytes_eq-Decides}
 use Rattle.catalogue_core.specs.Replay.{History}
-use Rattle.dbf_fields.specs.declared.day.Day.{Day}
-use Rattle.files_in_place.specs.Disk.{AfterStep, DiskMeaning, IsSyncedDisk, LeavesOnly}
+use Rattle.files_in_place.specs.Disk.{AfterStep, DiskMeaning, IsSyncedDisk, LeavesOnly, OnlyReads}
 use Rattle.files_in_place.specs.Folder.{Folder, Name, SameBut, first_of, is_reserved, list_name, recovered}
 use Rattle.files_in_place.specs.Recovery.{HasOldFiles, IsClean, IsFinished, RecoversTo, SameFree, StillRecovers}
 use Rattle.files_in_place.proofs.Each.{each_by}
 use Rattle.files_in_place.proofs.Ending.{unlisted_finished, without_free, without_res}
 use Rattle.files_in_place.proofs.Meaning.{free_other, recovered_reserved, same_name}
+use Rattle.files_in_place.proofs.Settling.{leaves_less, leaves_same}
 use Rattle.files_in_place.proofs.Uncommitted.{clean_uncommitted, uncommitted_old}
 use Rattle.files_in_place.specs.Staged.{is_file_name}
 use Rattle.folders.proofs.SinceLaws.{leaves_as, leaves_on}
@@ -38,9 +38,10 @@ use Rattle.program_frame.specs.declared.ending.Ending.{Ending}
 use Rattle.program_frame.specs.declared.ending.Ending.TheVariants as ending
 use Rattle.program_frame.specs.declared.ending.Failure.{Failure}
 use Rattle.live_program.specs.Asked.{IsAskedIn, IsWhyNotRead}
-use Rattle.live_program.specs.Closings.{answer_files_of, empty_log_file, file_of_bytes, AreDayFiles, IsDayPlaced, IsOldOrDay}
-use Rattle.open_day.specs.OpenDay.{log_name}
-use Rattle.live_program.specs.Lives.{EndsDay, GoesOn, IsFound, IsLife, IsNeverLost, IsOpenOrClosed, IsLifeOver, IsOpenStill, IsUnbegunDay, IsUnlived}
+use Rattle.live_program.specs.Closings.{answer_files_of, closed_log_file, file_of_bytes, AreEndFiles, IsDayPlaced, IsOldOrDay}
+use Rattle.open_day.specs.OpenDay.{closed_log, log_name, IsEarlier}
+use Rattle.live_program.specs.declared.closing.DayEnd.{DayEnd}
+use Rattle.live_program.specs.Lives.{end_of_day, EndsDay, GoesOn, IsFound, IsLife, IsNeverLost, IsOpenOrClosed, IsLifeOver, IsOpenStill, IsUnbegunDay, IsUnlived}
 use Rattle.live_program.specs.declared.failure.LiveFailure.{LiveFailure}
 use Rattle.live_program.specs.declared.lived.Lived.{Lived}
 use Rattle.live_program.specs.declared.options.Options.{Options}
@@ -84,34 +85,38 @@ last_covers (file ∷ files) name bytes x y = elim (cases_Bool (bytes_eq file.na
 ]
 
 -- the log is one of the day's files
-log_covered : (h : History) (today : Day) (files : List NamedFile) → AreDayFiles h today files → (x y : Option (List ℕ)) → first_of (file_at files log_name) x ≡ first_of (file_at files log_name) y
-log_covered h today files day x y =
-    let dated : List NamedFile = dated_files today day.tables in
+log_covered : (h : History) (end : DayEnd) (files : List NamedFile) → AreEndFiles h end files → (x y : Option (List ℕ)) → first_of (file_at files log_name) x ≡ first_of (file_at files log_name) y
+log_covered h end files (inl none) x y =
+    subst (λ (fs : List NamedFile). first_of (file_at fs log_name) x ≡ first_of (file_at fs log_name) y) (sym none.1) (last_covers [] log_name (closed_log end.earlier) x y)
+log_covered h end files (inr some) x y =
+    let day = some.1 in
+    let count : ℕ = length h.journal in
+    let dated : List NamedFile = dated_files end.today day.tables in
     let answered : List NamedFile = answer_files_of h.opened.stations h.journal in
-    let is : files ≡ (dated ++ answered) ++ empty_log_file = day.files_are ∙ sym (append_assoc dated answered empty_log_file) in
-    subst (λ (fs : List NamedFile). first_of (file_at fs log_name) x ≡ first_of (file_at fs log_name) y) (sym is) (last_covers (dated ++ answered) log_name (log_of []) x y)
+    let is : files ≡ (dated ++ answered) ++ closed_log_file count = day.files_are ∙ sym (append_assoc dated answered (closed_log_file count)) in
+    subst (λ (fs : List NamedFile). first_of (file_at fs log_name) x ≡ first_of (file_at fs log_name) y) (sym is) (last_covers (dated ++ answered) log_name (closed_log count) x y)
 
 -- so they stand in the same way in folders that differ in the log alone
-with_day_files : (h : History) (today : Day) (files : List NamedFile) (old new : Folder) → AreDayFiles h today files → SameBut log_name old new → (n : Name) → with_files files new n ≡ with_files files old n
-with_day_files h today files old new day same n = elim (same_name n log_name) [
-  | inl is ↦ subst (λ (x : Name). with_files files new x ≡ with_files files old x) (sym is) (log_covered h today files day (new log_name) (old log_name))
+with_day_files : (h : History) (end : DayEnd) (files : List NamedFile) (old new : Folder) → AreEndFiles h end files → SameBut log_name old new → (n : Name) → with_files files new n ≡ with_files files old n
+with_day_files h end files old new day same n = elim (same_name n log_name) [
+  | inl is ↦ subst (λ (x : Name). with_files files new x ≡ with_files files old x) (sym is) (log_covered h end files day (new log_name) (old log_name))
   | inr other ↦ ap (λ (o : Option (List ℕ)). if is_reserved n then None else first_of (file_at files n) o) (same n other)
 ]
 
-pub placed_on : (h : History) (today : Day) (old now new : Folder) → SameBut log_name old now → IsDayPlaced h today now new → IsDayPlaced h today old new
-placed_on h today old now new same placed = record {
+pub placed_on : (h : History) (end : DayEnd) (old now new : Folder) → SameBut log_name old now → IsDayPlaced h end now new → IsDayPlaced h end old new
+placed_on h end old now new same placed = record {
   files = placed.files;
   such = placed.such;
-  placed = λ n. placed.placed n ∙ with_day_files h today placed.files old now placed.such same n;
+  placed = λ n. placed.placed n ∙ with_day_files h end placed.files old now placed.such same n;
 }
 
 -- ---- what is left of a folder
 
 -- what stands for one of these folders stands for the other
-pub either_on : (least : ℕ) (last : History) (today : Day) (old now left : Folder) → SameBut log_name old now → IsOpenOrClosed least last today now left → IsOpenOrClosed least last today old left
-either_on least last today old now left same (inl has) = inl (record { kept = has.kept; elsewhere = λ n other. has.elsewhere n other ∙ same n other })
-either_on least last today old now left same (inr closed) =
-    inr (closed.0, closed.1, λ n. closed.2 n ∙ with_day_files last today closed.0 old now closed.1 same n)
+pub either_on : (least : ℕ) (last : History) (end : DayEnd) (old now left : Folder) → SameBut log_name old now → IsOpenOrClosed least last end now left → IsOpenOrClosed least last end old left
+either_on least last end old now left same (inl has) = inl (record { kept = has.kept; elsewhere = λ n other. has.elsewhere n other ∙ same n other })
+either_on least last end old now left same (inr closed) =
+    inr (closed.0, closed.1, λ n. closed.2 n ∙ with_day_files last end closed.0 old now closed.1 same n)
 
 -- a log in a folder without files of reserved names is what recovery leaves
 pub front_recovered : (name : Name) (least : ℕ) (journal : List LineParts) (old now left : Folder) → name ≡ log_name → IsClean now → SameBut log_name old now → HasFrontIn name least journal now left
@@ -156,11 +161,11 @@ old_open least last old now left enough has clean same kept = record {
 }
 
 -- a day that is being closed
-closing_left : (least : ℕ) (last : History) (today : Day) (old now left : Folder) → least ≤ length last.journal → HasLog log_name (parts_of last.journal) now → IsClean now → SameBut log_name old now
-    → IsOldOrDay last today now left → IsOpenOrClosed least last today old left
-closing_left least last today old now left enough has clean same (inl kept) = inl (old_open least last old now left enough has clean same kept)
-closing_left least last today old now left enough has clean same (inr files) =
-    inr (files.0, files.1, λ n. files.2 n ∙ with_day_files last today files.0 old now files.1 same n)
+closing_left : (least : ℕ) (last : History) (end : DayEnd) (old now left : Folder) → least ≤ length last.journal → HasLog log_name (parts_of last.journal) now → IsClean now → SameBut log_name old now
+    → IsOldOrDay last end now left → IsOpenOrClosed least last end old left
+closing_left least last end old now left enough has clean same (inl kept) = inl (old_open least last old now left enough has clean same kept)
+closing_left least last end old now left enough has clean same (inr files) =
+    inr (files.0, files.1, λ n. files.2 n ∙ with_day_files last end files.0 old now files.1 same n)
 
 -- a day that begins: its log takes the place of the one that was found
 pub beginning_left : (first last : History) (old found left : Folder) → HaveSmallNumbers (parts_of first.journal) → HasGoneOn first last → IsClean found → ((n : Name) → old n ≡ found n)
@@ -236,9 +241,13 @@ module _ {D : Type 0} (m : DiskMeaning D) where
       (λ left may. inl (synced_left start left synced clean may))
       (λ left either. subst (λ (folder : Folder). IsOldOrPlacedWith log_name log [] folder left) same either)
 
+  -- a call that changes no file
+  pub read_leaves : (old new : D) → OnlyReads m old new → LeavesOnly m old new (m.may_leave old)
+  read_leaves old new reads = leaves_less m old old new (leaves_same m old) (λ left may. may) reads
+
   -- ---- the lines of a day
 
-  module _ (promised : m.keeps_promises) (begun day : DayValue D) (today : Day) (shown shown_then : List ShownLine) (kept : KeepsShown m begun day shown shown_then)
+  module _ (promised : m.keeps_promises) (begun day : DayValue D) (end : DayEnd) (shown shown_then : List ShownLine) (kept : KeepsShown m begun day shown shown_then)
       (is : begun.log.name ≡ log_name) (clean : IsClean (m.seen begun.log.disk)) where
     same_since : SameBut log_name (m.seen begun.log.disk) (m.seen day.log.disk)
     same_since n other = kept.after.others n (λ at. other (at ∙ is))
@@ -249,42 +258,42 @@ module _ {D : Type 0} (m : DiskMeaning D) where
     clean_since : IsClean (m.seen day.log.disk)
     clean_since = clean_but_log (m.seen begun.log.disk) (m.seen day.log.disk) same_since clean
 
-    run_leaves : LeavesOnly m begun.log.disk day.log.disk (λ left. ⊥ ⊎ IsOpenOrClosed (length begun.history.journal) day.history today (m.seen begun.log.disk) left)
+    run_leaves : LeavesOnly m begun.log.disk day.log.disk (λ left. ⊥ ⊎ IsOpenOrClosed (length begun.history.journal) day.history end (m.seen begun.log.disk) left)
     run_leaves = leaves_as m begun.log.disk day.log.disk _ _ (kept.after.moments promised)
         (λ left has. inr (inl (front_recovered begun.log.name (length begun.history.journal) (parts_of day.history.journal) (m.seen begun.log.disk) (m.seen begun.log.disk) left is clean (λ n other. refl) has)))
 
-    shown_left : (s : ShownLine) → IsKeptLine m day s → (left : Folder) → m.left_since day.log.disk s.moment left → IsOpenOrClosed s.count day.history today (m.seen begun.log.disk) left
+    shown_left : (s : ShownLine) → IsKeptLine m day s → (left : Folder) → m.left_since day.log.disk s.moment left → IsOpenOrClosed s.count day.history end (m.seen begun.log.disk) left
     shown_left s line left since =
         inl (front_recovered day.log.name s.count (parts_of day.history.journal) (m.seen begun.log.disk) (m.seen day.log.disk) left name_still clean_since same_since (line.kept promised left since))
 
     -- the day was stopped
-    pub stopped_day : GoesOn m (λ left. ⊥) (m.seen begun.log.disk) begun.history day.history today shown shown_then begun.log.disk day.log.disk
+    pub stopped_day : GoesOn m (λ left. ⊥) (m.seen begun.log.disk) begun.history day.history end shown shown_then begun.log.disk day.log.disk
     stopped_day = record {
       journal = kept.after.history;
       lines = kept.lines;
       more = kept.more;
-      each = each_by (IsKeptLine m day) (IsNeverLost m (m.seen begun.log.disk) day.history today day.log.disk) kept.lines
+      each = each_by (IsKeptLine m day) (IsNeverLost m (m.seen begun.log.disk) day.history end day.log.disk) kept.lines
           (λ s line. record { told = line.told; among = line.among; kept = shown_left s line }) kept.each;
       moments = run_leaves;
     }
 
-    module _ (now : D) (logged : IsLogged m day) (closing : LeavesOnly m day.log.disk now (IsOldOrDay day.history today (m.seen day.log.disk))) where
+    module _ (now : D) (logged : IsLogged m day) (closing : LeavesOnly m day.log.disk now (IsOldOrDay day.history end (m.seen day.log.disk))) where
       has_log : HasLog log_name (parts_of day.history.journal) (m.seen day.log.disk)
       has_log = subst (λ (n : Name). HasLog n (parts_of day.history.journal) (m.seen day.log.disk)) name_still logged
 
-      closing_open : (least : ℕ) (left : Folder) → least ≤ length day.history.journal → IsOldOrDay day.history today (m.seen day.log.disk) left → IsOpenOrClosed least day.history today (m.seen begun.log.disk) left
-      closing_open least left enough either = closing_left least day.history today (m.seen begun.log.disk) (m.seen day.log.disk) left enough has_log clean_since same_since either
+      closing_open : (least : ℕ) (left : Folder) → least ≤ length day.history.journal → IsOldOrDay day.history end (m.seen day.log.disk) left → IsOpenOrClosed least day.history end (m.seen begun.log.disk) left
+      closing_open least left enough either = closing_left least day.history end (m.seen begun.log.disk) (m.seen day.log.disk) left enough has_log clean_since same_since either
 
       longer : length begun.history.journal ≤ length day.history.journal
       longer = omega (arith, ap length kept.after.history.journal, length-append begun.history.journal kept.after.history.more)
 
       -- the day was closed, or could not be
-      pub closed_day : GoesOn m (λ left. ⊥) (m.seen begun.log.disk) begun.history day.history today shown shown_then begun.log.disk now
+      pub closed_day : GoesOn m (λ left. ⊥) (m.seen begun.log.disk) begun.history day.history end shown shown_then begun.log.disk now
       closed_day = record {
         journal = kept.after.history;
         lines = kept.lines;
         more = kept.more;
-        each = each_by (IsKeptLine m day) (IsNeverLost m (m.seen begun.log.disk) day.history today now) kept.lines
+        each = each_by (IsKeptLine m day) (IsNeverLost m (m.seen begun.log.disk) day.history end now) kept.lines
             (λ s line. record {
               told = line.told;
               among = line.among;
@@ -294,21 +303,21 @@ module _ {D : Type 0} (m : DiskMeaning D) where
             (λ left either. inr (closing_open (length begun.history.journal) left longer either));
       }
 
-      pub placed_day : IsDayPlaced day.history today (m.seen day.log.disk) (m.seen now) → IsDayPlaced day.history today (m.seen begun.log.disk) (m.seen now)
-      placed_day placed = placed_on day.history today (m.seen begun.log.disk) (m.seen day.log.disk) (m.seen now) same_since placed
+      pub placed_day : IsDayPlaced day.history end (m.seen day.log.disk) (m.seen now) → IsDayPlaced day.history end (m.seen begun.log.disk) (m.seen now)
+      placed_day placed = placed_on day.history end (m.seen begun.log.disk) (m.seen day.log.disk) (m.seen now) same_since placed
 
 -- what was typed was obeyed, and the day was closed, or could not be
-pub day_ends : {D : Type 0} (m : DiskMeaning D) (ended : Type 0) (typed typed_then : List Typed) (before : Folder → Type 0) (found : Folder) (first last : History) (today : Day) (shown shown_then : List ShownLine) (start now : D)
-    (how : Result Lived (Failure LiveFailure)) → IsDayRun ended typed typed_then first last shown shown_then → GoesOn m before found first last today shown shown_then start now
-    → (P : Type 0) → (P → IsDayPlaced last today found (m.seen now)) → OnOk how P → IfOk how (λ lived. lived.count ≡ length last.journal) → EndsDay m ended typed typed_then before found first today shown shown_then start now how
-day_ends m ended typed typed_then before found first last today shown shown_then start now (Ok lived) run on P by placed count = record { last = last; goes_on = on; run = run; placed = by placed; count = count }
-day_ends m ended typed typed_then before found first last today shown shown_then start now (Err why) run on P by placed count = (last, on)
+pub day_ends : {D : Type 0} (m : DiskMeaning D) (ended : Type 0) (typed typed_then : List Typed) (before : Folder → Type 0) (found : Folder) (first last : History) (end : DayEnd) (shown shown_then : List ShownLine) (start now : D)
+    (how : Result Lived (Failure LiveFailure)) → IsDayRun ended typed typed_then first last shown shown_then → GoesOn m before found first last end shown shown_then start now
+    → (P : Type 0) → (P → IsDayPlaced last end found (m.seen now)) → OnOk how P → IfOk how (λ lived. lived.count ≡ length last.journal) → EndsDay m ended typed typed_then before found first end shown shown_then start now how
+day_ends m ended typed typed_then before found first last end shown shown_then start now (Ok lived) run on P by placed count = record { last = last; goes_on = on; run = run; placed = by placed; count = count }
+day_ends m ended typed typed_then before found first last end shown shown_then start now (Err why) run on P by placed count = (last, on)
 
 -- or it was stopped
-pub stopped_ends : {D : Type 0} (m : DiskMeaning D) (ended : Type 0) (typed typed_then : List Typed) (before : Folder → Type 0) (found : Folder) (first last : History) (today : Day) (shown shown_then : List ShownLine) (start now : D)
-    (how : Result Lived (Failure LiveFailure)) → IsErr how → GoesOn m before found first last today shown shown_then start now → EndsDay m ended typed typed_then before found first today shown shown_then start now how
-stopped_ends m ended typed typed_then before found first last today shown shown_then start now (Ok lived) failed on = absurd cc
-stopped_ends m ended typed typed_then before found first last today shown shown_then start now (Err why) failed on = (last, on)
+pub stopped_ends : {D : Type 0} (m : DiskMeaning D) (ended : Type 0) (typed typed_then : List Typed) (before : Folder → Type 0) (found : Folder) (first last : History) (end : DayEnd) (shown shown_then : List ShownLine) (start now : D)
+    (how : Result Lived (Failure LiveFailure)) → IsErr how → GoesOn m before found first last end shown shown_then start now → EndsDay m ended typed typed_then before found first end shown shown_then start now how
+stopped_ends m ended typed typed_then before found first last end shown shown_then start now (Ok lived) failed on = absurd cc
+stopped_ends m ended typed typed_then before found first last end shown shown_then start now (Err why) failed on = (last, on)
 
 -- ---- since the folder was recovered
 
@@ -325,18 +334,19 @@ module _ {D : Type 0} (m : DiskMeaning D) (promised : m.keeps_promises) (start d
     | inr free ↦ same n free ∙ recovery.same n
   ])
 
-  found_since : (files : Option (List NamedFile)) (options : Options) (first : History) → IsFound files options (m.seen disk) first → IsFound files options (recovered (m.seen start)) first
-  found_since files options first found = record {
+  found_since : (files : Option (List NamedFile)) (options : Options) (first : History) (earlier : ℕ) → IsFound files options (m.seen disk) first earlier → IsFound files options (recovered (m.seen start)) first earlier
+  found_since files options first earlier found = record {
     opened = found.opened;
     log = subst (λ (o : Option (List ℕ)). StandsFor (or_empty_log o) (parts_of first.journal)) (recovery.same log_name) found.log;
     legal = found.legal;
     of_stations = found.of_stations;
+    before = subst (λ (o : Option (List ℕ)). IsEarlier (or_empty_log o) earlier) (recovery.same log_name) found.before;
   }
 
   -- up to the moment when the log that was found has its place
-  beginning_leaves : (files : Option (List NamedFile)) (options : Options) (first last : History) (today : Day) (now : D) → IsFound files options (m.seen disk) first → HasGoneOn first last → LeavesOnly m disk now (IsOldOrPlacedWith log_name (log_of (parts_of first.journal)) [] (m.seen disk))
-      → LeavesOnly m start now (λ left. RecoversAsOneOf (m.may_leave start) left ⊎ IsOpenOrClosed (length first.journal) last today (recovered (m.seen start)) left)
-  beginning_leaves files options first last today now found on leaves =
+  beginning_leaves : (files : Option (List NamedFile)) (options : Options) (first last : History) (earlier : ℕ) (end : DayEnd) (now : D) → IsFound files options (m.seen disk) first earlier → HasGoneOn first last → LeavesOnly m disk now (IsOldOrPlacedWith log_name (log_of (parts_of first.journal)) [] (m.seen disk))
+      → LeavesOnly m start now (λ left. RecoversAsOneOf (m.may_leave start) left ⊎ IsOpenOrClosed (length first.journal) last end (recovered (m.seen start)) left)
+  beginning_leaves files options first last earlier end now found on leaves =
       leaves_on m start disk now (AfterStep StillRecovers (m.may_leave start)) (IsOldOrPlacedWith log_name (log_of (parts_of first.journal)) [] (m.seen disk)) _ recovery.moments leaves
       (λ left from. inl (from.0, from.1, from.2.recovers))
       (λ left either. ⊎_elim (λ (to : RecoversTo (recovered (m.seen start)) left). inl (as_found left to)) (λ (open_still : IsOpenStill (length first.journal) last (recovered (m.seen start)) left). inr (inl open_still))
@@ -351,63 +361,70 @@ module _ {D : Type 0} (m : DiskMeaning D) (promised : m.keeps_promises) (start d
     moments = leaves_on m start disk now (AfterStep StillRecovers (m.may_leave start)) (λ left. SameFree (m.seen disk) (recovered left)) (RecoversAsOneOf (m.may_leave start)) recovery.moments leaves
         (λ left from. (from.0, from.1, from.2.recovers)) still_found;
   })
-  unbegun_life ended typed typed_then files options shown now (Err why) failed (inr stops) = inr (record {
-    first = stops.0;
-    found = found_since files options stops.0 stops.1;
-    ends = (
-      stops.0,
-      record {
-        journal = none_more stops.0;
-        lines = [];
-        more = sym (append-nil shown);
-        each = tt;
-        moments = beginning_leaves files options stops.0 stops.0 options.today now stops.1 (none_more stops.0) stops.2;
-      },
-    );
-  })
+  unbegun_life ended typed typed_then files options shown now (Err why) failed (inr stops) =
+      let first = stops.0 in
+      let earlier = stops.1 in
+      let found = stops.2 in
+      inr (record {
+        first = first;
+        earlier = earlier;
+        found = found_since files options first earlier found;
+        ends = (
+          first,
+          record {
+            journal = none_more first;
+            lines = [];
+            more = sym (append-nil shown);
+            each = tt;
+            moments = beginning_leaves files options first first earlier (end_of_day options.today earlier) now found (none_more first) stops.3;
+          },
+        );
+      })
 
-  module _ (files : Option (List NamedFile)) (options : Options) (begun : DayValue D) (found : IsFound files options (m.seen disk) begun.history) (clean : IsClean (m.seen begun.log.disk))
+  module _ (files : Option (List NamedFile)) (options : Options) (begun : DayValue D) (earlier : ℕ) (found : IsFound files options (m.seen disk) begun.history earlier) (clean : IsClean (m.seen begun.log.disk))
       (others : (n : Name) → is_reserved n ≡ false → n ≢ log_name → m.seen begun.log.disk n ≡ m.seen disk n)
       (leaves : LeavesOnly m disk begun.log.disk (IsOldOrPlacedWith log_name (log_of (parts_of begun.history.journal)) [] (m.seen disk))) where
     begun_same : SameBut log_name (recovered (m.seen start)) (m.seen begun.log.disk)
     begun_same = same_but_log (recovered (m.seen start)) (m.seen begun.log.disk) none_reserved clean (λ n free other. others n free other ∙ recovery.same n)
 
-    life_on : (last : History) (today : Day) (shown shown_then : List ShownLine) (now : D) → GoesOn m (λ left. ⊥) (m.seen begun.log.disk) begun.history last today shown shown_then begun.log.disk now
-        → GoesOn m (RecoversAsOneOf (m.may_leave start)) (recovered (m.seen start)) begun.history last today shown shown_then start now
-    life_on last today shown shown_then now on = record {
+    life_on : (last : History) (end : DayEnd) (shown shown_then : List ShownLine) (now : D) → GoesOn m (λ left. ⊥) (m.seen begun.log.disk) begun.history last end shown shown_then begun.log.disk now
+        → GoesOn m (RecoversAsOneOf (m.may_leave start)) (recovered (m.seen start)) begun.history last end shown shown_then start now
+    life_on last end shown shown_then now on = record {
       journal = on.journal;
       lines = on.lines;
       more = on.more;
-      each = each_by (IsNeverLost m (m.seen begun.log.disk) last today now) (IsNeverLost m (recovered (m.seen start)) last today now) on.lines
+      each = each_by (IsNeverLost m (m.seen begun.log.disk) last end now) (IsNeverLost m (recovered (m.seen start)) last end now) on.lines
           (λ s line. record {
             told = line.told;
             among = line.among;
-            kept = λ left since. either_on s.count last today (recovered (m.seen start)) (m.seen begun.log.disk) left begun_same (line.kept left since);
+            kept = λ left since. either_on s.count last end (recovered (m.seen start)) (m.seen begun.log.disk) left begun_same (line.kept left since);
           }) on.each;
-      moments = leaves_on m start begun.log.disk now _ _ _ (beginning_leaves files options begun.history last today begun.log.disk found on.journal leaves) on.moments (λ left either. either)
+      moments = leaves_on m start begun.log.disk now _ _ _ (beginning_leaves files options begun.history last earlier end begun.log.disk found on.journal leaves) on.moments (λ left either. either)
           (λ left either. ⊎_elim (λ (none : ⊥). absurd none)
-          (λ (open_or : IsOpenOrClosed (length begun.history.journal) last today (m.seen begun.log.disk) left).
-          inr (either_on (length begun.history.journal) last today (recovered (m.seen start)) (m.seen begun.log.disk) left begun_same open_or)) either);
+          (λ (open_or : IsOpenOrClosed (length begun.history.journal) last end (m.seen begun.log.disk) left).
+          inr (either_on (length begun.history.journal) last end (recovered (m.seen start)) (m.seen begun.log.disk) left begun_same open_or)) either);
     }
 
     -- a day that had begun ended so
     pub begun_life : (ended : Type 0) (typed typed_then : List Typed) (shown shown_then : List ShownLine) (now : D) (how : Result Lived (Failure LiveFailure))
-        → EndsDay m ended typed typed_then (λ left. ⊥) (m.seen begun.log.disk) begun.history options.today shown shown_then begun.log.disk now how → IsLife m ended typed typed_then files options shown shown_then start now how
+        → EndsDay m ended typed typed_then (λ left. ⊥) (m.seen begun.log.disk) begun.history (end_of_day options.today earlier) shown shown_then begun.log.disk now how → IsLife m ended typed typed_then files options shown shown_then start now how
     begun_life ended typed typed_then shown shown_then now (Ok lived) ends = record {
       first = begun.history;
-      found = found_since files options begun.history found;
+      earlier = earlier;
+      found = found_since files options begun.history earlier found;
       ends = record {
         last = ends.last;
-        goes_on = life_on ends.last options.today shown shown_then now ends.goes_on;
+        goes_on = life_on ends.last (end_of_day options.today earlier) shown shown_then now ends.goes_on;
         run = ends.run;
-        placed = placed_on ends.last options.today (recovered (m.seen start)) (m.seen begun.log.disk) (m.seen now) begun_same ends.placed;
+        placed = placed_on ends.last (end_of_day options.today earlier) (recovered (m.seen start)) (m.seen begun.log.disk) (m.seen now) begun_same ends.placed;
         count = ends.count;
       };
     }
     begun_life ended typed typed_then shown shown_then now (Err why) ends = inr (record {
       first = begun.history;
-      found = found_since files options begun.history found;
-      ends = (ends.0, life_on ends.0 options.today shown shown_then now ends.1);
+      earlier = earlier;
+      found = found_since files options begun.history earlier found;
+      ends = (ends.0, life_on ends.0 (end_of_day options.today earlier) shown shown_then now ends.1);
     })
 
 -- a folder that could not be recovered

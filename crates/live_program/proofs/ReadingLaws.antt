@@ -14,9 +14,12 @@ use Rattle.station_lines.proofs.ScriptLaws.LineLaws.{last_at, last_line}
 use Rattle.station_lines.proofs.ScriptLaws.PartLaws.{tested}
 use Rattle.station_lines.proofs.ScriptLaws.TextLaws.{CutAt, cut_first}
 use Rattle.live_day.specs.declared.keyboard.Typed.{Typed}
-use Rattle.live_day.specs.declared.keyboard.Typed.TheVariants.{TooLong}
+use Rattle.live_day.specs.declared.keyboard.Typed.TheVariants.{TooLong, Cut}
 use Rattle.live_day.specs.declared.keyboard.TypingFault.{TypingFault}
-use Rattle.live_day.specs.Typing.{IsLineTyped, TypesNext}
+use Rattle.live_day.specs.Typing.{IsLineTyped, TypesFirst, TypesNext}
+use Rattle.live_program.specs.Consoles.{known_text}
+use Rattle.live_program.specs.declared.reading.Origin.{Origin}
+use Rattle.live_program.specs.declared.reading.Origin.TheVariants.{Pipe, Terminal}
 use Rattle.live_program.specs.declared.reading.PieceEnd.{PieceEnd}
 use Rattle.live_program.specs.declared.reading.PieceEnd.TheVariants.{Open, Line, Input}
 use Rattle.live_program.specs.declared.reading.TheConstants.{CR, MAX_KEPT_BYTES}
@@ -110,21 +113,31 @@ with_cr b xs rest is inside = record {
   ended = tt;
 }
 
-by_cr : (q : Bool) (front rest : List ℕ) → (get_or front (length front - 1) 0 == CR) ≡ q → has_no_lf front ≡ true
-    → BeginsWithLine (front ++ LF ∷ rest) (cond q (take (length front - 1) front) front) rest
-by_cr true [] rest is inside = absurd (false≢true is)
-by_cr true (b ∷ xs) rest is inside =
+-- a line that an LF ends is typed
+types_cr : (b : ℕ) (xs rest : List ℕ) (typed : Typed) → get_or (b ∷ xs) (length xs) 0 ≡ CR → has_no_lf (b ∷ xs) ≡ true → IsLineTyped (take (length xs) (b ∷ xs)) typed
+    → TypesFirst ((b ∷ xs) ++ LF ∷ rest) typed rest
+unfolding with_cr
+types_cr b xs rest typed is inside line = record { line = take (length xs) (b ∷ xs); first = with_cr b xs rest is inside; typed_is = line }
+
+types_by_cr : (q : Bool) (front rest : List ℕ) (typed : Typed) → (get_or front (length front - 1) 0 == CR) ≡ q → has_no_lf front ≡ true
+    → IsLineTyped (cond q (take (length front - 1) front) front) typed → TypesFirst (front ++ LF ∷ rest) typed rest
+types_by_cr true [] rest typed is inside line = absurd (false≢true is)
+types_by_cr true (b ∷ xs) rest typed is inside line =
     let one : length (b ∷ xs) - 1 ≡ length xs = omega arith in
-    rw one (with_cr b xs rest (rw one at (eqb-true _ CR is)) inside)
-by_cr false front rest is inside = record {
-  ending = lf;
-  joined = refl;
-  one_line = inside;
-  ended = λ same. false≢true (sym is ∙ ap (λ (x : ℕ). x == CR) same);
+    types_cr b xs rest typed (rw one at (eqb-true _ CR is)) inside (subst (λ (n : ℕ). IsLineTyped (take n (b ∷ xs)) typed) one line)
+types_by_cr false front rest typed is inside line = record {
+  line = front;
+  first = record {
+    ending = lf;
+    joined = refl;
+    one_line = inside;
+    ended = λ same. false≢true (sym is ∙ ap (λ (x : ℕ). x == CR) same);
+  };
+  typed_is = line;
 }
 
-begins : (front rest : List ℕ) → has_no_lf front ≡ true → BeginsWithLine (front ++ LF ∷ rest) (without_cr front) rest
-begins front rest inside = by_cr (get_or front (length front - 1) 0 == CR) front rest refl inside
+types_line : (front rest : List ℕ) (typed : Typed) → has_no_lf front ≡ true → IsLineTyped (without_cr front) typed → TypesFirst (front ++ LF ∷ rest) typed rest
+types_line front rest typed inside line = types_by_cr (get_or front (length front - 1) 0 == CR) front rest typed refl inside line
 
 -- ---- what is typed
 
@@ -138,11 +151,6 @@ pub typed_ended : (text kept : List ℕ) (too_long : Bool) (typed : Typed) → I
 typed_ended text kept true typed part long line =
     subst (λ (t : Typed). IsLineTyped (without_cr text) t) (sym (long refl)) (omega (arith, part, cr_length text (get_or text (length text - 1) 0 == CR)))
 typed_ended text kept false typed part long line = subst (λ (t : List ℕ). IsLineTyped (without_cr t) typed) part (line refl)
-
--- the last one, which lacks its ending
-pub typed_whole : (text kept : List ℕ) (too_long : Bool) (typed : Typed) → IsLineKept text too_long kept → (too_long ≡ true → typed ≡ TooLong) → (too_long ≡ false → IsLineTyped kept typed) → IsLineTyped text typed
-typed_whole text kept true typed part long line = subst (λ (t : Typed). IsLineTyped text t) (sym (long refl)) (omega (arith, part))
-typed_whole text kept false typed part long line = subst (λ (t : List ℕ). IsLineTyped t typed) part (line refl)
 
 -- ---- from a source
 
@@ -173,28 +181,34 @@ known_then x front (Some z) gone = (z, refl, gone)
 line_of_text : (x : List ℕ) (c : Option (List ℕ)) (line taken : List ℕ) (typed : Typed) → Consumes (Some x) c (line ++ LF ∷ []) → has_no_lf line ≡ true → IsLineTyped (without_cr line) typed
     → TypesNext (Some x) (Some typed) c
 line_of_text x None line taken typed gone inside is = absurd gone
-line_of_text x (Some z) line taken typed gone inside is = record {
-  line = without_cr line;
-  first = subst (λ (t : List ℕ). BeginsWithLine t (without_cr line) z) (sym (gone ∙ append_assoc line (LF ∷ []) z)) (begins line z inside);
-  typed_is = is;
-}
+line_of_text x (Some z) line taken typed gone inside is = subst (λ (t : List ℕ). TypesFirst t typed z) (sym (gone ∙ append_assoc line (LF ∷ []) z)) (types_line line z typed inside is)
 
-pub line_read : (a b c : Option (List ℕ)) (too_long long_now : Bool) (kept now : List ℕ) (end : PieceEnd) (typed : Typed) → end ≡ Line → (has : HasPart a b too_long kept) → ReadsPiece has.text end b c long_now now
+-- what holds of a text holds of what is known of it
+of_known : (origin : Origin) (a c : Option (List ℕ)) (next : Option Typed) → TypesNext a next c → TypesNext (known_text origin a) next (known_text origin c)
+of_known Terminal a c next is = tt
+of_known Pipe a c next is = is
+
+line_read_of : (a b c : Option (List ℕ)) (too_long long_now : Bool) (kept now : List ℕ) (end : PieceEnd) (typed : Typed) → end ≡ Line → (has : HasPart a b too_long kept) → ReadsPiece has.text end b c long_now now
     → (long_now ≡ true → typed ≡ TooLong) → (long_now ≡ false → IsLineTyped (without_cr now) typed) → TypesNext a (Some typed) c
-line_read None b c too_long long_now kept now end typed is has reads long line = tt
-line_read (Some x) b c too_long long_now kept now end typed is has reads long line =
+line_read_of None b c too_long long_now kept now end typed is has reads long line = tt
+line_read_of (Some x) b c too_long long_now kept now end typed is has reads long line =
     let piece : List ℕ = reads.takes.piece in
     let taken : has.text ++ reads.taken ≡ (has.text ++ piece) ++ LF ∷ [] =
     ap (λ (t : List ℕ). has.text ++ t) (reads.takes.taken_is ∙ ap (λ (e : PieceEnd). piece ++ end_bytes e) is) ∙ sym (append_assoc has.text piece (LF ∷ [])) in
     line_of_text x c (has.text ++ piece) [] typed (subst (Consumes (Some x) c) taken (Consumes-trans (Some x) b c has.text reads.taken has.gone reads.gone)) (no_lf_both has.text piece has.inside reads.takes.inside)
     (typed_ended (has.text ++ piece) now long_now typed reads.takes.part long line)
 
+pub line_read : (a b c : Option (List ℕ)) (too_long long_now : Bool) (kept now : List ℕ) (end : PieceEnd) (typed : Typed) (origin : Origin) → end ≡ Line → (has : HasPart a b too_long kept)
+    → ReadsPiece has.text end b c long_now now → (long_now ≡ true → typed ≡ TooLong) → (long_now ≡ false → IsLineTyped (without_cr now) typed) → TypesNext (known_text origin a) (Some typed) (known_text origin c)
+line_read a b c too_long long_now kept now end typed origin is has reads long line =
+    of_known origin a c (Some typed) (line_read_of a b c too_long long_now kept now end typed is has reads long line)
+
 -- the source has ended
 at_end : (x : List ℕ) (b c : Option (List ℕ)) (front : List ℕ) → Consumes (Some x) b front → OnSome b (IsAtEnd c) → IsAtEnd c
 at_end x None c front gone end = absurd gone
 at_end x (Some y) c front gone end = end
 
-rest_of_text : (x : List ℕ) (c : Option (List ℕ)) (line : List ℕ) (typed : Typed) → Consumes (Some x) c line → IsAtEnd c → has_no_lf line ≡ true → line ≢ [] → IsLineTyped line typed → TypesNext (Some x) (Some typed) c
+rest_of_text : (x : List ℕ) (c : Option (List ℕ)) (line : List ℕ) (typed : Typed) → Consumes (Some x) c line → IsAtEnd c → has_no_lf line ≡ true → line ≢ [] → typed ≡ Cut → TypesNext (Some x) (Some typed) c
 rest_of_text x None line typed gone end inside some is = absurd gone
 rest_of_text x (Some z) line typed gone end inside some is = record { line = line; first = record { ending = none; joined = gone; one_line = inside; ended = (some, end) }; typed_is = is }
 
@@ -204,15 +218,16 @@ kept_some text kept true part some is = omega (arith, part, ap length is)
 kept_some text kept false part (inl long) is = false≢true long
 kept_some text kept false part (inr some) is = some (part ∙ is)
 
-pub rest_read : (a b c : Option (List ℕ)) (too_long long_now : Bool) (kept now : List ℕ) (end : PieceEnd) (typed : Typed) → end ≡ Input → (has : HasPart a b too_long kept) → ReadsPiece has.text end b c long_now now
-    → (long_now ≡ true) ⊎ (now ≢ []) → (long_now ≡ true → typed ≡ TooLong) → (long_now ≡ false → IsLineTyped now typed) → TypesNext a (Some typed) c
-rest_read None b c too_long long_now kept now end typed is has reads some long line = tt
-rest_read (Some x) b c too_long long_now kept now end typed is has reads some long line =
+pub rest_read : (a b c : Option (List ℕ)) (too_long long_now : Bool) (kept now : List ℕ) (end : PieceEnd) (typed : Typed) (origin : Origin) → end ≡ Input → (has : HasPart a b too_long kept)
+    → ReadsPiece has.text end b c long_now now → (long_now ≡ true) ⊎ (now ≢ []) → (origin ≡ Pipe → typed ≡ Cut) → TypesNext (known_text origin a) (Some typed) (known_text origin c)
+rest_read a b c too_long long_now kept now end typed Terminal is has reads some cut = tt
+rest_read None b c too_long long_now kept now end typed Pipe is has reads some cut = tt
+rest_read (Some x) b c too_long long_now kept now end typed Pipe is has reads some cut =
     let piece : List ℕ = reads.takes.piece in
     let taken : has.text ++ reads.taken ≡ has.text ++ piece =
     ap (λ (t : List ℕ). has.text ++ t) (reads.takes.taken_is ∙ ap (λ (e : PieceEnd). piece ++ end_bytes e) is ∙ append-nil piece) in
     rest_of_text x c (has.text ++ piece) typed (subst (Consumes (Some x) c) taken (Consumes-trans (Some x) b c has.text reads.taken has.gone reads.gone)) (at_end x b c has.text has.gone (reads.input is))
-    (no_lf_both has.text piece has.inside reads.takes.inside) (kept_some (has.text ++ piece) now long_now reads.takes.part some) (typed_whole (has.text ++ piece) now long_now typed reads.takes.part long line)
+    (no_lf_both has.text piece has.inside reads.takes.inside) (kept_some (has.text ++ piece) now long_now reads.takes.part some) (cut refl)
 
 -- and there was nothing of a line
 none_of_text : (x : List ℕ) (c : Option (List ℕ)) (line : List ℕ) → Consumes (Some x) c line → IsAtEnd c → line ≡ [] → TypesNext (Some x) None c
@@ -223,12 +238,17 @@ kept_none : (text kept : List ℕ) (too_long : Bool) → IsLineKept text too_lon
 kept_none text kept true part short is = absurd (false≢true (sym short))
 kept_none text kept false part short is = sym part ∙ is
 
-pub none_read : (a b c : Option (List ℕ)) (too_long long_now : Bool) (kept now : List ℕ) (end : PieceEnd) → end ≡ Input → (has : HasPart a b too_long kept) → ReadsPiece has.text end b c long_now now
+none_read_of : (a b c : Option (List ℕ)) (too_long long_now : Bool) (kept now : List ℕ) (end : PieceEnd) → end ≡ Input → (has : HasPart a b too_long kept) → ReadsPiece has.text end b c long_now now
     → long_now ≡ false → now ≡ [] → TypesNext a None c
-none_read None b c too_long long_now kept now end is has reads short empty = tt
-none_read (Some x) b c too_long long_now kept now end is has reads short empty =
+none_read_of None b c too_long long_now kept now end is has reads short empty = tt
+none_read_of (Some x) b c too_long long_now kept now end is has reads short empty =
     let piece : List ℕ = reads.takes.piece in
     let taken : has.text ++ reads.taken ≡ has.text ++ piece =
     ap (λ (t : List ℕ). has.text ++ t) (reads.takes.taken_is ∙ ap (λ (e : PieceEnd). piece ++ end_bytes e) is ∙ append-nil piece) in
     none_of_text x c (has.text ++ piece) (subst (Consumes (Some x) c) taken (Consumes-trans (Some x) b c has.text reads.taken has.gone reads.gone)) (at_end x b c has.text has.gone (reads.input is))
     (kept_none (has.text ++ piece) now long_now reads.takes.part short empty)
+
+pub none_read : (a b c : Option (List ℕ)) (too_long long_now : Bool) (kept now : List ℕ) (end : PieceEnd) (origin : Origin) → end ≡ Input → (has : HasPart a b too_long kept)
+    → ReadsPiece has.text end b c long_now now → long_now ≡ false → now ≡ [] → TypesNext (known_text origin a) None (known_text origin c)
+none_read a b c too_long long_now kept now end origin is has reads short empty =
+    of_known origin a c None (none_read_of a b c too_long long_now kept now end is has reads short empty)

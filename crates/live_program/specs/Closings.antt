@@ -1,5 +1,5 @@
 -- The files of a day's end.
-use Rattle.std.specs.Prelude.{◌≡◌, ◌⊎◌, ℕ, zero, suc, ◌==◌, List, [], ◌∷◌, ◌++◌, flat_map, Option, None, if◌then◌else◌}
+use Rattle.std.specs.Prelude.{◌≡◌, ◌≢◌, ◌⊎◌, ℕ, zero, suc, ◌==◌, List, [], ◌∷◌, ◌++◌, length, flat_map, Option, None, if◌then◌else◌}
 use Rattle.byte_io.specs.Sink.{grown}
 use Rattle.dbf_fields.specs.declared.day.Day.{Day}
 use Rattle.files_in_place.specs.Folder.{Folder}
@@ -11,12 +11,12 @@ use Rattle.catalogue_core.specs.declared.entry.Entry.{Entry}
 use Rattle.catalogue_core.specs.Replay.{History}
 use Rattle.station_lines.specs.AnswerLines.{line_of}
 use Rattle.station_lines.specs.declared.script.format.TheConstants.{LF}
-use Rattle.live_log.specs.Gates.{log_of}
-use Rattle.open_day.specs.OpenDay.{log_name}
+use Rattle.open_day.specs.OpenDay.{closed_log, log_name}
 use Rattle.office_run.specs.declared.closed.ClosedTable.{ClosedTable}
 use Rattle.office_run.specs.Closing.{answer_name, first_blocked}
 use Rattle.office_run.specs.HandedOver.{AreHandedOver}
 use Rattle.office_run.specs.TablesWritten.{dated_files}
+use Rattle.live_program.specs.declared.closing.DayEnd.{DayEnd}
 
 -- the line of an entry's answer, where the entry is the station's
 abbrev pub own_line : ℕ → Entry → List ℕ
@@ -35,31 +35,43 @@ abbrev pub answer_files_of : ℕ → List Entry → List NamedFile
 answer_files_of zero journal = []
 answer_files_of (suc n) journal = answer_files_of n journal ++ file_of_bytes (answer_name (suc n)) (answers_in (suc n) journal)
 
--- the file of the log without entries
-abbrev pub empty_log_file : List NamedFile
-empty_log_file = file_of_bytes log_name (log_of [])
+-- the file of the log of a day that was closed with so many commands
+abbrev pub closed_log_file : ℕ → List NamedFile
+closed_log_file count = file_of_bytes log_name (closed_log count)
 
--- The files of a day's end: those of the tables and indexes at the journal's end, dated, of each station's answers, and the log
--- without entries. None of the tables has more blocks than its file can have.
+-- The files of the end of a day that has commands: those of the tables and indexes at the journal's end, dated, of each station's answers,
+-- and the closed log, which tells how many commands there are. None of the tables has more blocks than its file can have.
 pub record AreDayFiles (h : History) (today : Day) (files : List NamedFile) : Type 0 where
   pub tables : List ClosedTable
   pub handed : AreHandedOver h tables
   pub few_blocks : first_blocked 1 tables ≡ None
-  pub files_are : files ≡ dated_files today tables ++ (answer_files_of h.opened.stations h.journal ++ empty_log_file)
+  pub files_are : files ≡ dated_files today tables ++ (answer_files_of h.opened.stations h.journal ++ closed_log_file (length h.journal))
 
 -- they stand after what was written before
-pub record AreDayWritten (h : History) (today : Day) (old new : Option (List ℕ)) : Type 0 where
+pub record AreFilesWritten (h : History) (today : Day) (old new : Option (List ℕ)) : Type 0 where
   pub files : List NamedFile
   pub such : AreDayFiles h today files
   pub written : new ≡ grown old (listing files)
   pub told : files_in (listing files) ≡ files
 
--- the folder has the day's files in their places, the empty log among them, and each other file as it was
-pub record IsDayPlaced (h : History) (today : Day) (old new : Folder) : Type 0 where
+-- The files of a day's end. Where the day has no command it is the closed log alone, which tells still of the day before it: the files of
+-- tables and answers stay as they are.
+abbrev pub AreEndFiles : History → DayEnd → List NamedFile → Type 0
+AreEndFiles h end files = ((h.journal ≡ []) × (files ≡ closed_log_file end.earlier)) ⊎ ((h.journal ≢ []) × AreDayFiles h end.today files)
+
+-- the files of a day's end stand after what was written before
+pub record AreDayWritten (h : History) (end : DayEnd) (old new : Option (List ℕ)) : Type 0 where
   pub files : List NamedFile
-  pub such : AreDayFiles h today files
+  pub such : AreEndFiles h end files
+  pub written : new ≡ grown old (listing files)
+  pub told : files_in (listing files) ≡ files
+
+-- the folder has these files in their places, the closed log among them, and each other file as it was
+pub record IsDayPlaced (h : History) (end : DayEnd) (old new : Folder) : Type 0 where
+  pub files : List NamedFile
+  pub such : AreEndFiles h end files
   pub placed : (n : List ℕ) → new n ≡ with_files files old n
 
--- what a crash leaves stands for the old files, their log among them, or for the day's files, the empty log among them
-abbrev pub IsOldOrDay : History → Day → Folder → Folder → Type 0
-IsOldOrDay h today old left = HasOldFiles old left ⊎ ((files : List NamedFile) × AreDayFiles h today files × RecoversTo (with_files files old) left)
+-- what a crash leaves stands for the old files, their log among them, or for those of the day's end, the closed log among them
+abbrev pub IsOldOrDay : History → DayEnd → Folder → Folder → Type 0
+IsOldOrDay h end old left = HasOldFiles old left ⊎ ((files : List NamedFile) × AreEndFiles h end files × RecoversTo (with_files files old) left)

@@ -4,6 +4,8 @@ use Rattle.std.specs.Fmt.{decimal}
 use Rattle.audit.specs.declared.fault.AuditFault.{AuditFault}
 use Rattle.audit.specs.declared.fault.AuditFault.TheVariants as fault
 use Rattle.audit.specs.declared.fault.Difference.{Difference}
+use Rattle.files_in_place.specs.declared.faults.DiskFault.{DiskFault}
+use Rattle.files_in_place.specs.declared.faults.DiskFault.TheVariants as disk
 use Rattle.files_in_place.specs.declared.faults.SetFault.{SetFault}
 use Rattle.files_in_place.specs.declared.faults.SetFault.TheVariants as set
 use Rattle.live_day.specs.declared.run_fault.RunFault.{RunFault}
@@ -32,10 +34,14 @@ says_unwritten why = false
 
 -- why a day was not begun on the log of an earlier one
 abbrev pub start_failure : StartFault → LiveFailure
-start_failure start.Changed = failure.NoLog
+start_failure (start.Changed number) = failure.NoLog number
 start_failure (start.Audit why) = failure.Entry why
 start_failure start.NoMemory = no_memory
-start_failure start.Failed = failure.Unstarted
+
+-- why a day was not begun where its log can't be read
+abbrev pub unread_log : DiskFault → LiveFailure
+unread_log disk.NoMemory = no_memory
+unread_log disk.Failed = failure.Unstarted
 
 -- why a day was not begun where its log has not got its place
 abbrev pub unplaced_log : SetFault → LiveFailure
@@ -57,7 +63,7 @@ run_failure run.NoMemory = no_memory
 -- the exit status: as the server's, 5 where the log does not hold, and 4 where it or the answers can't be written
 abbrev pub status : LiveFailure → ℕ
 status (failure.Serve why) = fault_status why
-status failure.NoLog = 5
+status (failure.NoLog number) = 5
 status (failure.Entry why) = 5
 status (failure.Log why) = 4
 status failure.Unstarted = 4
@@ -78,7 +84,7 @@ entry_reason fault.NoMemory = codes "run: NoMemory"
 
 abbrev pub reason : LiveFailure → List ℕ
 reason (failure.Serve why) = fault_reason why
-reason failure.NoLog = codes "STATIONS.LOG is no log, or somebody has changed it"
+reason (failure.NoLog number) = codes "entry " ++ (decimal number ++ codes " of the log: STATIONS.LOG is no log of this version, or somebody has changed it")
 reason (failure.Entry why) = entry_reason why
 reason (failure.Log why) = codes "cannot write the log: the next start goes on with it"
 reason failure.Unstarted = codes "cannot read or write the log"

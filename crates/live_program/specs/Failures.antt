@@ -6,6 +6,7 @@ use Rattle.clap.specs.Words.{Text}
 use Rattle.dbf_fields.specs.declared.day.Day.{Day}
 use Rattle.files_in_place.specs.Disk.{DiskMeaning}
 use Rattle.files_in_place.specs.Folder.{Folder, recovered}
+use Rattle.files_in_place.specs.declared.faults.DiskFault.{DiskFault}
 use Rattle.files_in_place.specs.declared.faults.SetFault.{SetFault}
 use Rattle.folders.specs.declared.finish_fault.FinishFault.{FinishFault}
 use Rattle.folders.specs.declared.named.NamedFile.{NamedFile}
@@ -30,7 +31,7 @@ use Rattle.program_frame.specs.declared.ending.Failure.{Failure}
 use Rattle.program_frame.specs.declared.ending.Failure.TheVariants as failure
 use Rattle.program_frame.specs.declared.folder.PlaceFault.{PlaceFault}
 use Rattle.live_program.specs.Asked.{IsAskedIn, IsWhyNotRead}
-use Rattle.live_program.specs.Endings.{no_memory, run_failure, start_failure, unplaced_log}
+use Rattle.live_program.specs.Endings.{no_memory, run_failure, start_failure, unplaced_log, unread_log}
 use Rattle.live_program.specs.Openings.{AreTablesOpened, AreTablesUnopened}
 use Rattle.live_program.specs.declared.failure.LiveFailure.{LiveFailure}
 use Rattle.live_program.specs.declared.failure.LiveFailure.TheVariants as live
@@ -52,9 +53,9 @@ pub record IsLogFailure (is_told : Opened → StartFault → Type 0) (files : Op
   pub told : is_told opened fault
   pub why_is : why ≡ start_failure fault
 
--- it is, but the log of the same entries has not got its place
+-- the log was not read, or that of the same entries has not got its place
 abbrev pub IsLogUnplaced : LiveFailure → Type 0
-IsLogUnplaced why = (fault : SetFault) × (why ≡ unplaced_log fault)
+IsLogUnplaced why = ((fault : DiskFault) × (why ≡ unread_log fault)) ⊎ ((fault : SetFault) × (why ≡ unplaced_log fault))
 
 -- one of the three
 abbrev pub IsUnstarted : (Opened → StartFault → Type 0) → Option (List NamedFile) → Options → LiveFailure → Type 0

@@ -47,3 +47,16 @@ last_lines (suc n) journal = last_lines n journal ++ last_said (suc n) (last_ent
 abbrev pub again_text : ℕ → List Entry → List ℕ
 again_text stations [] = []
 again_text stations (e ∷ es) = again_line (length (e ∷ es)) ++ last_lines stations (e ∷ es)
+
+-- what is said of a day that was closed before with so many commands, its LF too
+abbrev pub earlier_line : ℕ → List ℕ
+earlier_line count = codes "station_prompt: an earlier day was closed: " ++ (decimal count ++ (codes " commands" ++ LF ∷ []))
+
+-- nothing where it had none
+abbrev pub earlier_text : ℕ → List ℕ
+earlier_text zero = []
+earlier_text (suc n) = earlier_line (suc n)
+
+-- what is said of the log at a start
+abbrev pub start_text : ℕ → ℕ → List Entry → List ℕ
+start_text earlier stations journal = earlier_text earlier ++ again_text stations journal

@@ -8,3 +8,4 @@ pub mod Lives
 pub mod NumberLists
 pub mod Openings
 pub mod Reading
+pub mod Sayings

@@ -4,11 +4,12 @@ ghost use Rattle.std.specs.Prelude.{◌≡◌, ◌⊎◌, ◌<◌, ◌+◌, ◌+
 ghost use Rattle.std.specs.Io.KnownBytes.{Appends};
 ghost use Rattle.live_day.specs.Shows.{shown_now};
 ghost use Rattle.live_day.specs.Waiting.{all_shown_after, ShowsFront};
+ghost use Rattle.live_program.specs.declared.reading.Origin.TheVariants.{Pipe, Terminal};
 ghost use Rattle.live_program.specs.Consoles.{shown_of_numbers, shown_text, shown_texts, HasPrinted};
-ghost use Rattle.live_program.specs.declared.console.TheConstants.{LINE_AT_ONCE};
 
 use crate::number_lists::{NumberLists, Numbered};
-use crate::reading::read_line;
+use crate::printing::print_line;
+use crate::reading::{Origin, read_line};
 use arrayvec::ArrayVec;
 use disk_in_place::DiskInPlace;
 use live_day::{Day, Keyboard, Screen, ScreenFault, Typed, TypingFault, WaitingAnswer};
@@ -17,9 +18,6 @@ use std::alloc::Global;
 use std::io;
 use std::io::{BufRead, Write};
 use std::marker::Model;
-
-// How many bytes a line has, its LF too, that is printed by one write: nearly each answer is as short.
-const LINE_AT_ONCE: usize = 512;
 
 // How many bytes of answers, with their LFs, are printed by one write where they come together.
 const PAGE_BYTES: usize = 8_192;
@@ -33,6 +31,7 @@ impl Numbered for Typed {
 /// The lines of a reader, and a prompt before each where there is a writer for it.
 #[derive(Drop)]
 pub struct TypedLines<R: BufRead + Drop, P: Write + Drop> {
+    origin: Origin,
     reader: R,
     prompt: Option<P>,
     // Whether a further whole line is in the reader's buffer.
@@ -49,18 +48,42 @@ impl<R: BufRead + Drop, P: Write + Drop> Model for TypedLines<R, P> {
 
     ghost Value = { What R };
 
-    ghost view = { λ k. record { reader = k.reader; typed = map typed_of_numbers k.typed; ended = k.ended; failed = k.failed } };
+    ghost view = { λ k. record { origin = k.origin; reader = k.reader; typed = map typed_of_numbers k.typed; ended = k.ended; failed = k.failed } };
 }
 
 impl<R: BufRead + Drop, P: Write + Drop> TypedLines<R, P> {
-    /// The lines of a reader from here on.
+    /// The lines of a pipe or a file from here on. A last one without LF was cut.
     pub fn new(reader: R, prompt: Option<P>) -> TypedLines<R, P>
+        ensures origin { result.origin ≡ Pipe }
+        ensures reader { result.reader ≡ reader }
+        ensures untyped { result.typed ≡ [] }
+        ensures open { result.ended ≡ false }
+        ensures unfailed { result.failed ≡ false }
+    {
+        TypedLines::of(Origin::Pipe, reader, prompt)
+    }
+
+    /// The lines of a terminal from here on. Who types there may end the input after a line, which is one without LF too.
+    pub fn at_terminal(reader: R, prompt: Option<P>) -> TypedLines<R, P>
+        ensures origin { result.origin ≡ Terminal }
+        ensures reader { result.reader ≡ reader }
+        ensures untyped { result.typed ≡ [] }
+        ensures open { result.ended ≡ false }
+        ensures unfailed { result.failed ≡ false }
+    {
+        TypedLines::of(Origin::Terminal, reader, prompt)
+    }
+
+    // Lines of which none was read.
+    fn of(origin: Origin, reader: R, prompt: Option<P>) -> TypedLines<R, P>
+        ensures origin { result.origin ≡ origin }
         ensures reader { result.reader ≡ reader }
         ensures untyped { result.typed ≡ [] }
         ensures open { result.ended ≡ false }
         ensures unfailed { result.failed ≡ false }
     {
         TypedLines {
+            origin,
             reader,
             prompt,
             has_more: false,
@@ -82,6 +105,7 @@ impl<R: BufRead + Drop, P: Write + Drop> TypedLines<R, P> {
 
 impl<R: BufRead + Drop, P: Write + Drop> Keyboard for TypedLines<R, P> {
     ghost use Rattle.std.specs.Prelude.{◌≡◌, true};
+    ghost use Rattle.live_program.specs.Consoles.{known_text};
 
     ghost typed = { λ k. k.typed };
 
@@ -89,12 +113,12 @@ impl<R: BufRead + Drop, P: Write + Drop> Keyboard for TypedLines<R, P> {
 
     ghost has_failed = { λ k. k.failed ≡ true };
 
-    ghost text_left = { λ k. R.remaining k.reader };
+    ghost text_left = { λ k. known_text k.origin (R.remaining k.reader) };
 
     #[tactic(auto, using(crate::proofs::ConsoleLaws::typed_more))]
     fn next_line(&mut self, alloc: Global, station: u32) -> Result<Option<Typed>, TypingFault> {
         self.ask(station);
-        match read_line(alloc, &mut self.reader, &mut self.has_more) {
+        match read_line(alloc, &mut self.reader, self.origin, &mut self.has_more) {
             Ok(Some(typed)) => {
                 self.typed.push(&typed);
                 Ok(Some(typed))
@@ -182,30 +206,6 @@ impl<W: Write + Drop> PrintedAnswers<W> {
             failed: false,
         }
     }
-}
-
-// Prints a short line and LF, by one write.
-#[tactic(auto, using(crate::proofs::ConsoleLaws::line_in_front))]
-fn print_short<W: Write>(out: &mut W, line: &[u8]) -> io::Result<()>
-    requires short { length line.now < LINE_AT_ONCE }
-    ensures text { OnOk result (Appends (W.contents out.old) (W.contents out.new) (shown_text line.now)) }
-{
-    let mut text = [0; LINE_AT_ONCE];
-    text[..line.len()].copy_from_slice(line);
-    text[line.len()] = LF;
-    out.write_all(&text[..line.len() + 1])
-}
-
-/// Prints a line and LF.
-pub fn print_line<W: Write>(out: &mut W, line: &[u8]) -> io::Result<()>
-    ensures text { OnOk result (Appends (W.contents out.old) (W.contents out.new) (shown_text line.now)) }
-{
-    if line.len() < LINE_AT_ONCE {
-        return print_short(out, line);
-    }
-    out.write_all(line)?;
-    out.write_all(b"\n")?;
-    Ok(())
 }
 
 // Answers that waited are shown, for contracts.

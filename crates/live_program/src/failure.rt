@@ -5,6 +5,7 @@ ghost use Rattle.std.specs.Io.KnownBytes.{Appends};
 ghost use Rattle.live_program.specs.Endings.{difference_reason, entry_reason};
 
 use audit::{AuditFault, Difference};
+use files_in_place::DiskFault;
 use live_day::{RunFault, StartFault};
 use live_log::LogFault;
 use office_run::ServeFault;
@@ -18,8 +19,9 @@ use std::io::Write;
 pub enum LiveFailure {
     /// The tables were not opened as a run opens them or not written, or memory was refused.
     Serve(ServeFault),
-    /// The file of the log's name is no log, or somebody has changed it: it stands for no entries.
-    NoLog,
+    /// The file of the log's name is no log, or somebody has changed it: the entry of this number is the first that does not stand in it as
+    /// it was put.
+    NoLog(u64),
     /// An entry of the log does not hold on the tables.
     Entry(AuditFault),
     /// The log took no more entries.
@@ -62,10 +64,23 @@ impl From<StartFault> for LiveFailure {
 
     fn from(fault: StartFault) -> LiveFailure {
         match fault {
-            StartFault::Changed => LiveFailure::NoLog,
+            StartFault::Changed(number) => LiveFailure::NoLog(number),
             StartFault::Audit(fault) => LiveFailure::Entry(fault),
             StartFault::NoMemory => LiveFailure::Serve(ServeFault::NoMemory),
-            StartFault::Failed => LiveFailure::Unstarted,
+        }
+    }
+}
+
+impl From<DiskFault> for LiveFailure {
+    ghost use Rattle.std.specs.Prelude.{◌≡◌};
+    ghost use Rattle.live_program.specs.Endings.{unread_log};
+
+    ghost from_gives = { λ fault failure. failure ≡ unread_log fault };
+
+    fn from(fault: DiskFault) -> LiveFailure {
+        match fault {
+            DiskFault::NoMemory => LiveFailure::Serve(ServeFault::NoMemory),
+            DiskFault::Failed => LiveFailure::Unstarted,
         }
     }
 }
@@ -99,7 +114,7 @@ impl Reason for LiveFailure {
     fn exit_status(&self) -> u8 {
         match self {
             LiveFailure::Serve(fault) => fault_status(fault),
-            LiveFailure::NoLog => 5,
+            LiveFailure::NoLog(_) => 5,
             LiveFailure::Entry(_) => 5,
             LiveFailure::Log(_) => 4,
             LiveFailure::Unstarted => 4,
@@ -111,8 +126,11 @@ impl Reason for LiveFailure {
     fn print<W: Write>(&self, out: &mut W) -> io::Result<()> {
         match self {
             LiveFailure::Serve(fault) => print_fault(out, fault),
-            LiveFailure::NoLog => {
-                out.write_all(b"STATIONS.LOG is no log, or somebody has changed it")
+            LiveFailure::NoLog(number) => {
+                write!(
+                    out,
+                    "entry {number} of the log: STATIONS.LOG is no log of this version, or somebody has changed it"
+                )
             }
             LiveFailure::Entry(fault) => print_entry(out, fault),
             LiveFailure::Log(_) => {

@@ -2,7 +2,7 @@
 
 ghost use Rattle.std.specs.Prelude.{◌≡◌, option_map, IfOk, OnOk};
 ghost use Rattle.std.specs.Io.KnownBytes.{Appends};
-ghost use Rattle.live_program.specs.Greetings.{again_line, again_text, last_entry, last_line, last_lines, last_said, or_before, own_entry, station_named};
+ghost use Rattle.live_program.specs.Greetings.{again_line, again_text, earlier_text, last_entry, last_line, last_lines, last_said, or_before, own_entry, start_text as text_of_start, station_named};
 
 use byte_io::Bytes;
 use catalogue_core::{Catalogue, Entry};
@@ -122,5 +122,40 @@ pub fn tell_again<W: Write>(
     match print_again(out, count) {
         Ok(()) => tell_stations(alloc, catalogue, out),
         Err(unprinted) => Ok(Err(unprinted)),
+    }
+}
+
+// Says that an earlier day was closed with so many commands, if it had any: `station_prompt: an earlier day was closed: N commands` and LF.
+#[tactic(auto, using(crate::proofs::GreetingLaws::earlier_none, crate::proofs::GreetingLaws::earlier_some))]
+fn tell_earlier<W: Write>(out: &mut W, earlier: u64) -> io::Result<()>
+    ensures text { OnOk result (Appends (W.contents out.old) (W.contents out.new) (earlier_text earlier)) }
+{
+    if earlier == 0 {
+        return Ok(());
+    }
+    write!(
+        out,
+        "station_prompt: an earlier day was closed: {earlier} commands\n"
+    )
+}
+
+/// What there is to say of the log at a start: how many commands the day had that was closed before, and what [`tell_again`] prints. An
+/// error where memory is refused.
+#[tactic(auto, using(crate::proofs::GreetingLaws::start_said))]
+pub(crate) fn start_text(
+    alloc: Global,
+    catalogue: &Catalogue,
+    earlier: u64,
+) -> Result<Bytes, AllocError>
+    ensures value { IfOk result (λ text. text ≡ text_of_start earlier catalogue.now.opened.stations catalogue.now.journal) }
+{
+    let mut text = Vec::new(alloc);
+    match tell_earlier(&mut text, earlier) {
+        Ok(()) => {}
+        Err(_) => return Err(AllocError),
+    }
+    match tell_again(alloc, catalogue, &mut text)? {
+        Ok(()) => Ok(Bytes::from_vec(text)),
+        Err(_) => Err(AllocError),
     }
 }

@@ -3,7 +3,7 @@
 //!
 //! [`run_program`] does what the words of a command line ask for: [`Options`] is what they say. [`TypedLines`] has the lines of a
 //! reader, [`PrintedAnswers`] prints the answers. A life is in `life.rt`: it goes on with the log of an earlier one, and
-//! [`close_day`] puts the new files in place with an empty log. [`Lived`] is what is said of a day that was closed, [`LiveFailure`] why
+//! [`close_day`] puts the new files in place with a log that tells how many commands there are. [`Lived`] is what is said of a day that was closed, [`LiveFailure`] why
 //! it was not. What a day's files are is defined in `specs/Closings.antt`, what the command line asks for in `specs/Asked.antt`; the lines
 //! and the statuses are in `specs/Endings.antt`. Start reading there.
 #![tactic(auto)]
@@ -19,12 +19,13 @@ mod number_lists;
 mod opening;
 mod options;
 mod places;
+mod printing;
 mod reading;
 mod running;
 mod warning;
 
-pub use closing::close_day;
-pub use console::{PrintedAnswers, Showing, ShowingAfter, TypedLines, print_line};
+pub use closing::{DayEnd, close_day};
+pub use console::{PrintedAnswers, Showing, ShowingAfter, TypedLines};
 pub use failure::LiveFailure;
 pub use greeting::tell_again;
 pub use life::live_in_place;
@@ -34,4 +35,5 @@ pub use open_day::LOG_NAME;
 pub use opening::open_tables;
 pub use options::{Options, command, options_of, read_options};
 pub use places::{HostPlaces, Places};
+pub use printing::{print_bytes, print_line};
 pub use running::{PROGRAM, run_program};

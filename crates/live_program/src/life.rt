@@ -1,6 +1,6 @@
 //! A life of the program: from the folder of its log to the day's end.
 
-ghost use Rattle.std.specs.Prelude.{◌≡◌, ◌≢◌, ◌≤◌, [], true, false, length, Err, IfErr, IfOk, IsErr, OnOk};
+ghost use Rattle.std.specs.Prelude.{◌≡◌, ◌≢◌, ◌≤◌, [], true, false, length, Err, IfErr, IfOk, IsErr, OnErr, OnOk};
 ghost use Rattle.files_in_place.specs.Disk.{IsSyncedDisk, LeavesOnly};
 ghost use Rattle.files_in_place.specs.Folder.{Name, is_reserved};
 ghost use Rattle.files_in_place.specs.Recovery.{IsClean, OthersAreWhole};
@@ -17,37 +17,51 @@ ghost use Rattle.live_program.specs.Failures.{IsLifeFailure, IsLogUnplaced, IsTo
 ghost use Rattle.live_program.specs.Openings.{AreTablesOpened};
 ghost use Rattle.live_program.specs.declared.failure.LiveFailure.{LiveFailure as Why};
 ghost use Rattle.live_program.specs.Lives.{EndsDay, IsFound, IsLife, IsUnbegunDay};
+ghost use Rattle.live_program.specs.Consoles.{AppendsFront};
+ghost use Rattle.live_program.specs.Greetings.{start_text as text_of_start};
+ghost use Rattle.live_program.specs.Sayings.{HasSaidAtStart, IsKeptText, IsSaidOf};
 
-use crate::closing::{close_day, log_file_name};
+use crate::closing::{DayEnd, close_day, log_file_name};
 use crate::failure::LiveFailure;
-use crate::greeting::tell_again;
+use crate::greeting::start_text;
 use crate::lived::Lived;
 use crate::opening::open_tables;
 use crate::options::Options;
+use crate::printing::print_bytes;
 use crate::warning::warn_of_kept_files;
 use byte_io::Bytes;
 use catalogue_core::Catalogue;
-use dbf_fields::Day as Date;
 use disk_in_place::DiskInPlace;
 use files_in_place::{FileSet, SetFault};
 use folders::Source;
 use live_day::{Day, Keyboard, Screen, perform_again, run_day, start_day};
+use live_log::find_log;
 use office_run::ServeFault;
-use open_day::LOG_NAME;
+use open_day::{LOG_NAME, earlier_count};
 use program_frame::{Failure, InPlace, begin_in_place};
 use std::alloc::Global;
 use std::io::Write;
 
-// The tables after all entries of a log, and the log of these.
+// The tables after all entries of a log, the log of these, what there is to say of it, and how many commands the day had that was closed
+// before.
 #[derive(Drop)]
 struct Found {
     catalogue: Catalogue,
     log: Bytes,
     name: Bytes,
+    said: Bytes,
+    earlier: u64,
 }
 
-// Opens the tables, and performs the log of an earlier life once more on them. What there is to say of both is printed.
-#[tactic(auto, using(files_in_place::proofs::Settling::leaves_same))]
+// A day that has begun, and how many commands the one had that was closed before.
+#[derive(Drop)]
+struct Begun<D: DiskInPlace + Drop> {
+    day: Day<D>,
+    earlier: u64,
+}
+
+// Opens the tables, and performs the log of an earlier life once more on them. What there is to say of the setup is printed.
+#[tactic(auto, using(files_in_place::proofs::Settling::leaves_same, crate::proofs::SayingLaws::nothing_said))]
 fn find_day<S: Source, D: DiskInPlace + Drop, E: Write>(
     alloc: Global,
     options: &Options<'_>,
@@ -59,13 +73,15 @@ fn find_day<S: Source, D: DiskInPlace + Drop, E: Write>(
     requires clean { D.meaning.keeps_promises → IsClean (D.meaning.seen disk.old) }
     ensures synced { D.meaning.keeps_promises → OnOk result (IsSyncedDisk D.meaning disk.new) }
     ensures clean { D.meaning.keeps_promises → OnOk result (IsClean (D.meaning.seen disk.new)) }
-    ensures found { D.meaning.keeps_promises → IfOk result (λ found. IsFound (S.files source.old) options.now (D.meaning.seen disk.old) found.catalogue) }
+    ensures found { D.meaning.keeps_promises → IfOk result (λ found. IsFound (S.files source.old) options.now (D.meaning.seen disk.old) found.catalogue found.earlier) }
     ensures tables { IfOk result (λ found. AreTablesOpened (S.files source.old) options.now.setup.now options.now.reindex found.catalogue.opened) }
     ensures log { IfOk result (λ found. found.log ≡ log_of (parts_of found.catalogue.journal)) }
     ensures name { IfOk result (λ found. found.name ≡ log_name) }
     ensures small { IfOk result (λ found. HaveSmallNumbers (parts_of found.catalogue.journal)) }
     ensures stations { IfOk result (λ found. 1 ≤ found.catalogue.opened.stations) }
     ensures fault { IfErr result (IsUnstarted (IsToldOf D.meaning (D.meaning.seen disk.old)) (S.files source.old) options.now) }
+    ensures warned { IsSaidOf (IsKeptText (S.files source.old) options.now.setup.now) (E.contents err.old) (E.contents err.new) }
+    ensures said { IfOk result (λ found. found.said ≡ text_of_start found.earlier found.catalogue.opened.stations found.catalogue.journal) }
     ensures kept { S.files source.new ≡ S.files source.old }
     ensures seen { D.meaning.seen disk.new ≡ D.meaning.seen disk.old }
     ensures any_moment { LeavesOnly D.meaning disk.old disk.new (D.meaning.may_leave disk.old) }
@@ -74,12 +90,16 @@ fn find_day<S: Source, D: DiskInPlace + Drop, E: Write>(
     let name = log_file_name(alloc)?;
     let _ = warn_of_kept_files(alloc, &setup, source, err)?;
     let mut catalogue = open_tables(alloc, &setup, options.reindex, source)?;
-    let log = perform_again(alloc, &mut catalogue, disk, LOG_NAME)?;
-    let _ = tell_again(alloc, &catalogue, err)?;
+    let found = find_log(alloc, disk, LOG_NAME)?;
+    let log = perform_again(alloc, &mut catalogue, found.as_slice())?;
+    let earlier = earlier_count(found.as_slice());
+    let said = start_text(alloc, &catalogue, earlier)?;
     Ok(Found {
         catalogue,
         log,
         name,
+        said,
+        earlier,
     })
 }
 
@@ -104,34 +124,41 @@ fn failed<D: DiskInPlace + Drop>(why: LiveFailure, disk: D) -> InPlace<Lived, Li
     }
 }
 
-// Begins a day on what was found.
-fn begin_found<D: DiskInPlace + Drop>(
+// Begins a day on what was found. What there is to say of the log is printed once it has its place, and all of it is on the disk.
+#[tactic(auto, using(crate::proofs::PrintingLaws::no_front))]
+fn begin_found<D: DiskInPlace + Drop, E: Write>(
     alloc: Global,
     found: Found,
     disk: D,
-) -> Result<Day<D>, InPlace<Lived, LiveFailure, D>>
+    err: &mut E,
+) -> Result<Begun<D>, InPlace<Lived, LiveFailure, D>>
     requires synced { D.meaning.keeps_promises → IsSyncedDisk D.meaning disk }
     requires clean { D.meaning.keeps_promises → IsClean (D.meaning.seen disk) }
     requires log { found.log ≡ log_of (parts_of found.catalogue.journal) }
     requires name { found.name ≡ log_name }
     requires small { HaveSmallNumbers (parts_of found.catalogue.journal) }
-    ensures history { IfOk result (λ day. day.history ≡ found.catalogue) }
-    ensures name { IfOk result (λ day. day.log.name ≡ log_name) }
-    ensures takes { IfOk result (λ day. day.takes ≡ true) }
-    ensures clean { D.meaning.keeps_promises → IfOk result (λ day. IsClean (D.meaning.seen day.log.disk)) }
-    ensures others { D.meaning.keeps_promises → IfOk result (λ day. (n : Name) → is_reserved n ≡ false → n ≢ log_name
-        → D.meaning.seen day.log.disk n ≡ D.meaning.seen disk n) }
-    ensures any_moment { D.meaning.keeps_promises → IfOk result (λ day.
-        LeavesOnly D.meaning disk day.log.disk (IsOldOrPlacedWith log_name (log_of (parts_of found.catalogue.journal)) [] (D.meaning.seen disk))) }
+    ensures history { IfOk result (λ begun. begun.day.history ≡ found.catalogue) }
+    ensures earlier { IfOk result (λ begun. begun.earlier ≡ found.earlier) }
+    ensures name { IfOk result (λ begun. begun.day.log.name ≡ log_name) }
+    ensures takes { IfOk result (λ begun. begun.day.takes ≡ true) }
+    ensures clean { D.meaning.keeps_promises → IfOk result (λ begun. IsClean (D.meaning.seen begun.day.log.disk)) }
+    ensures others { D.meaning.keeps_promises → IfOk result (λ begun. (n : Name) → is_reserved n ≡ false → n ≢ log_name
+        → D.meaning.seen begun.day.log.disk n ≡ D.meaning.seen disk n) }
+    ensures any_moment { D.meaning.keeps_promises → IfOk result (λ begun.
+        LeavesOnly D.meaning disk begun.day.log.disk (IsOldOrPlacedWith log_name (log_of (parts_of found.catalogue.journal)) [] (D.meaning.seen disk))) }
     ensures refused { IfErr result (λ unbegun. IsErr unbegun.ended) }
     ensures fault { IfErr result (λ unbegun. (fault : Why) × IsLogUnplaced fault × (unbegun.ended ≡ Err (Failure.Work fault))) }
     ensures moment_of_fault { D.meaning.keeps_promises → IfErr result (λ unbegun.
         LeavesOnly D.meaning disk unbegun.disk (IsOldOrPlacedWith log_name (log_of (parts_of found.catalogue.journal)) [] (D.meaning.seen disk))) }
+    ensures said { AppendsFront (E.contents err.old) (E.contents err.new) found.said }
+    ensures unsaid { OnErr result (E.contents err.new ≡ E.contents err.old) }
 {
     let Found {
         catalogue,
         log,
         name,
+        said,
+        earlier,
     } = found;
     match start_day(
         alloc,
@@ -140,7 +167,10 @@ fn begin_found<D: DiskInPlace + Drop>(
         name,
         log.as_slice(),
     ) {
-        Ok(day) => Ok(day),
+        Ok(day) => {
+            let _ = print_bytes(err, said.as_slice());
+            Ok(Begun { day, earlier })
+        }
         Err(stopped) => Err(failed(unstarted(stopped.fault), stopped.disk)),
     }
 }
@@ -152,28 +182,31 @@ fn begin_day<S: Source, D: DiskInPlace + Drop, E: Write>(
     source: &mut S,
     disk: D,
     err: &mut E,
-) -> Result<Day<D>, InPlace<Lived, LiveFailure, D>>
+) -> Result<Begun<D>, InPlace<Lived, LiveFailure, D>>
     requires synced { D.meaning.keeps_promises → IsSyncedDisk D.meaning disk }
     requires clean { D.meaning.keeps_promises → IsClean (D.meaning.seen disk) }
-    ensures found { D.meaning.keeps_promises → IfOk result (λ day. IsFound (S.files source.old) options.now (D.meaning.seen disk) day.history) }
-    ensures tables { IfOk result (λ day. AreTablesOpened (S.files source.old) options.now.setup.now options.now.reindex day.history.opened) }
-    ensures name { IfOk result (λ day. day.log.name ≡ log_name) }
-    ensures takes { IfOk result (λ day. day.takes ≡ true) }
-    ensures stations { IfOk result (λ day. 1 ≤ day.history.opened.stations) }
-    ensures clean { D.meaning.keeps_promises → IfOk result (λ day. IsClean (D.meaning.seen day.log.disk)) }
-    ensures others { D.meaning.keeps_promises → IfOk result (λ day. (n : Name) → is_reserved n ≡ false → n ≢ log_name
-        → D.meaning.seen day.log.disk n ≡ D.meaning.seen disk n) }
-    ensures any_moment { D.meaning.keeps_promises → IfOk result (λ day.
-        LeavesOnly D.meaning disk day.log.disk (IsOldOrPlacedWith log_name (log_of (parts_of day.history.journal)) [] (D.meaning.seen disk))) }
+    ensures found { D.meaning.keeps_promises → IfOk result (λ begun. IsFound (S.files source.old) options.now (D.meaning.seen disk) begun.day.history begun.earlier) }
+    ensures tables { IfOk result (λ begun. AreTablesOpened (S.files source.old) options.now.setup.now options.now.reindex begun.day.history.opened) }
+    ensures name { IfOk result (λ begun. begun.day.log.name ≡ log_name) }
+    ensures takes { IfOk result (λ begun. begun.day.takes ≡ true) }
+    ensures stations { IfOk result (λ begun. 1 ≤ begun.day.history.opened.stations) }
+    ensures clean { D.meaning.keeps_promises → IfOk result (λ begun. IsClean (D.meaning.seen begun.day.log.disk)) }
+    ensures others { D.meaning.keeps_promises → IfOk result (λ begun. (n : Name) → is_reserved n ≡ false → n ≢ log_name
+        → D.meaning.seen begun.day.log.disk n ≡ D.meaning.seen disk n) }
+    ensures any_moment { D.meaning.keeps_promises → IfOk result (λ begun.
+        LeavesOnly D.meaning disk begun.day.log.disk (IsOldOrPlacedWith log_name (log_of (parts_of begun.day.history.journal)) [] (D.meaning.seen disk))) }
     ensures refused { IfErr result (λ unbegun. IsErr unbegun.ended) }
     ensures fault { IfErr result (λ unbegun. (fault : Why)
         × IsUnstarted (IsToldOf D.meaning (D.meaning.seen disk)) (S.files source.old) options.now fault × (unbegun.ended ≡ Err (Failure.Work fault))) }
     ensures unbegun { D.meaning.keeps_promises → IfErr result (λ unbegun. IsUnbegunDay D.meaning (S.files source.old) options.now disk unbegun.disk) }
+    ensures said { HasSaidAtStart (S.files source.old) options.now (E.contents err.old) (E.contents err.new) }
+    // Where the log has not got its place nothing is said of it.
+    ensures unsaid { OnErr result (IsSaidOf (IsKeptText (S.files source.old) options.now.setup.now) (E.contents err.old) (E.contents err.new)) }
     ensures kept { S.files source.new ≡ S.files source.old }
 {
     let mut disk = disk;
     match find_day(alloc, options, source, &mut disk, err) {
-        Ok(found) => begin_found(alloc, found, disk),
+        Ok(found) => begin_found(alloc, found, disk, err),
         Err(why) => Err(failed(why, disk)),
     }
 }
@@ -181,18 +214,18 @@ fn begin_day<S: Source, D: DiskInPlace + Drop, E: Write>(
 // Closes a day that takes lines still.
 fn close<D: DiskInPlace + Drop>(
     alloc: Global,
-    today: Date,
+    end: DayEnd,
     day: Day<D>,
 ) -> InPlace<Lived, LiveFailure, D>
     requires takes { day.takes ≡ true }
     ensures count { IfOk result.ended (λ lived. lived.count ≡ length day.history.journal) }
-    ensures fault { IfErr result.ended (IsUnclosed day.history today) }
+    ensures fault { IfErr result.ended (IsUnclosed day.history end.today) }
     ensures logged { D.meaning.keeps_promises → IsLogged D.meaning day }
-    ensures placed { D.meaning.keeps_promises → OnOk result.ended (IsDayPlaced day.history today (D.meaning.seen day.log.disk) (D.meaning.seen result.disk)) }
-    ensures any_moment { D.meaning.keeps_promises → LeavesOnly D.meaning day.log.disk result.disk (IsOldOrDay day.history today (D.meaning.seen day.log.disk)) }
+    ensures placed { D.meaning.keeps_promises → OnOk result.ended (IsDayPlaced day.history end (D.meaning.seen day.log.disk) (D.meaning.seen result.disk)) }
+    ensures any_moment { D.meaning.keeps_promises → LeavesOnly D.meaning day.log.disk result.disk (IsOldOrDay day.history end (D.meaning.seen day.log.disk)) }
 {
     let (catalogue, log) = day.into_parts();
-    let (ended, disk) = close_day(alloc, &catalogue, today, log.into_disk());
+    let (ended, disk) = close_day(alloc, &catalogue, end, log.into_disk());
     InPlace { ended, disk }
 }
 
@@ -208,7 +241,7 @@ fn stop<D: DiskInPlace + Drop>(why: LiveFailure, day: Day<D>) -> InPlace<Lived, 
 // Answers the lines of a day as they come, and closes it.
 fn live_day<D: DiskInPlace + Drop, K: Keyboard, C: Screen<D>>(
     alloc: Global,
-    today: Date,
+    end: DayEnd,
     day: Day<D>,
     keyboard: &mut K,
     screen: &mut C,
@@ -218,22 +251,23 @@ fn live_day<D: DiskInPlace + Drop, K: Keyboard, C: Screen<D>>(
     requires name { day.log.name ≡ log_name }
     requires clean { D.meaning.keeps_promises → IsClean (D.meaning.seen day.log.disk) }
     ensures ends { D.meaning.keeps_promises → EndsDay D.meaning (IsAllTyped (K.has_ended keyboard.new) (K.text_left keyboard.old) (K.text_left keyboard.new))
-        (K.typed keyboard.old) (K.typed keyboard.new) (λ left. ⊥) (D.meaning.seen day.log.disk) day.history today
+        (K.typed keyboard.old) (K.typed keyboard.new) (λ left. ⊥) (D.meaning.seen day.log.disk) day.history end
         (C.shown screen.old) (C.shown screen.new) day.log.disk result.disk result.ended }
     ensures read { OnOk result.ended (HasTyped (K.text_left keyboard.old) (K.text_left keyboard.new) (K.typed keyboard.old) (K.typed keyboard.new)) }
     ensures fault { IfErr result.ended (IsUnendedFrom (IsDayFault D.meaning (C.has_failed screen.new)
-        (CanReadNoMore (K.has_failed keyboard.new) (K.typed keyboard.new))) day.history.opened today) }
+        (CanReadNoMore (K.has_failed keyboard.new) (K.typed keyboard.new))) day.history.opened end.today) }
 {
     let mut day = day;
     match run_day(alloc, &mut day, keyboard, screen) {
-        Ok(()) => close(alloc, today, day),
+        Ok(()) => close(alloc, end, day),
         Err(fault) => stop(LiveFailure::from(fault), day),
     }
 }
 
 /// Lives a day on the folder of a disk: what an earlier run left in it is brought to its end, the tables of the setup are opened, the
 /// log is performed once more on them, lines are answered as they come, and at the end all new files take their places together
-/// with an empty log. What there is to say of the log is printed on `err`.
+/// with a closed log. What there is to say of the log is printed on `err`, once all of it is on the disk.
+#[tactic(auto, using(crate::proofs::SayingLaws::silent_start, crate::proofs::SayingLaws::nothing_said))]
 pub fn live_in_place<S: Source, D: DiskInPlace + Drop, K: Keyboard, C: Screen<D>, E: Write>(
     alloc: Global,
     options: &Options<'_>,
@@ -253,6 +287,11 @@ pub fn live_in_place<S: Source, D: DiskInPlace + Drop, K: Keyboard, C: Screen<D>
     // It is said why: which line of the setup is bad, which file is refused, which entry of the log does not hold, what of the day failed.
     ensures fault { IfErr result.ended (IsLifeFailure D.meaning (IsDayFault D.meaning (C.has_failed screen.new)
         (CanReadNoMore (K.has_failed keyboard.new) (K.typed keyboard.new))) (S.files source.old) options.now disk) }
+    // And what was said of the setup and the log at the start.
+    ensures said { HasSaidAtStart (S.files source.old) options.now (E.contents err.old) (E.contents err.new) }
+    // Where the log could not be read or has not got its place, nothing was said of it.
+    ensures unsaid { result.ended ≡ Err (Failure.Work LiveFailure.Unstarted)
+        → IsSaidOf (IsKeptText (S.files source.old) options.now.setup.now) (E.contents err.old) (E.contents err.new) }
     ensures kept { S.files source.new ≡ S.files source.old }
 {
     let disk = match begin_in_place::<Lived, LiveFailure, D>(alloc, disk) {
@@ -260,7 +299,13 @@ pub fn live_in_place<S: Source, D: DiskInPlace + Drop, K: Keyboard, C: Screen<D>
         Err(refused) => return refused,
     };
     match begin_day(alloc, options, source, disk, err) {
-        Ok(day) => live_day(alloc, options.today, day, keyboard, screen),
+        Ok(begun) => {
+            let end = DayEnd {
+                today: options.today,
+                earlier: begun.earlier,
+            };
+            live_day(alloc, end, begun.day, keyboard, screen)
+        }
         Err(unbegun) => unbegun,
     }
 }

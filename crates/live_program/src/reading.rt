@@ -4,8 +4,10 @@ ghost use Rattle.std.specs.Prelude.{◌≡◌, ◌≢◌, ◌⊎◌, ◌≤◌, 
 ghost use Rattle.station_lines.specs.Script.Lines.{without_cr};
 ghost use Rattle.station_lines.specs.declared.script.format.TheConstants.{LF};
 ghost use Rattle.live_day.specs.Typing.{IsLineTyped, TypesNext};
-ghost use Rattle.live_day.specs.declared.keyboard.Typed.TheVariants.{TooLong};
+ghost use Rattle.live_day.specs.declared.keyboard.Typed.TheVariants.{TooLong, Cut};
+ghost use Rattle.live_program.specs.Consoles.{known_text};
 ghost use Rattle.live_program.specs.Reading.{IsLineKept, ReadsPiece, TakesPiece};
+ghost use Rattle.live_program.specs.declared.reading.Origin.TheVariants.{Pipe};
 ghost use Rattle.live_program.specs.declared.reading.PieceEnd.TheVariants.{Input};
 ghost use Rattle.live_program.specs.declared.reading.TheConstants.{CR, MAX_KEPT_BYTES};
 
@@ -21,6 +23,15 @@ const CR: u8 = b'\r';
 
 // How many bytes of a line are kept: one more than it may have, for the CR.
 const MAX_KEPT_BYTES: usize = MAX_LINE_BYTES + 1;
+
+/// Where lines come from, which says what an end of the input in the midst of a line is.
+#[derive(Clone, Copy, Debug, PartialEq, Eq)]
+pub(crate) enum Origin {
+    /// A pipe or a file: the line was cut.
+    Pipe,
+    /// A terminal: who types there has ended the input after the line.
+    Terminal,
+}
 
 // What a piece of the input ends in.
 #[derive(Clone, Copy, PartialEq, Eq)]
@@ -125,6 +136,16 @@ impl PartLine {
     }
 }
 
+// The last line, where the input has ended before its LF.
+fn last_line(line: PartLine, origin: Origin) -> Typed
+    ensures cut { origin ≡ Pipe → result ≡ Cut }
+{
+    match origin {
+        Origin::Pipe => Typed::Cut,
+        Origin::Terminal => line.whole(),
+    }
+}
+
 // Why nothing is shown of what is typed: a signal came, and then it is asked once more; or the lines can't be read.
 fn unshown(error: &io::Error) -> Result<PieceEnd, TypingFault>
     ensures open { IfOk result (λ end. end ≡ PieceEnd.Open) }
@@ -160,13 +181,15 @@ fn read_piece<R: BufRead>(
     Ok(end)
 }
 
-// Reads a line, and says whether a further whole one is there already. `None` at the end of all that is typed.
+// Reads a line, and says whether a further whole one is there already. `None` at the end of all that is typed. A last line without LF is
+// one that was cut, but at a terminal.
 pub(crate) fn read_line<R: BufRead>(
     alloc: Global,
     reader: &mut R,
+    origin: Origin,
     has_more: &mut bool,
 ) -> Result<Option<Typed>, TypingFault>
-    ensures text { IfOk result (λ next. TypesNext (R.remaining reader.old) next (R.remaining reader.new)) }
+    ensures text { IfOk result (λ next. TypesNext (known_text origin (R.remaining reader.old)) next (known_text origin (R.remaining reader.new))) }
 {
     let mut line = PartLine {
         bytes: Vec::new(alloc),
@@ -177,7 +200,7 @@ pub(crate) fn read_line<R: BufRead>(
             PieceEnd::Open => {}
             PieceEnd::Line => return Ok(Some(line.ended())),
             PieceEnd::Input if line.is_empty() => return Ok(None),
-            PieceEnd::Input => return Ok(Some(line.whole())),
+            PieceEnd::Input => return Ok(Some(last_line(line, origin))),
         }
     }
     Err(TypingFault::Failed)

@@ -5,6 +5,7 @@ ghost use Rattle.live_day.specs.Faults.{IsDayFault};
 ghost use Rattle.live_day.specs.Typing.{CanReadNoMore, HasTyped, IsAllTyped};
 ghost use Rattle.live_program.specs.Failures.{IsOptionsFailure, IsWhyUnlived};
 ghost use Rattle.live_program.specs.Lives.{IsAskedLife, IsLifeOver, IsUnlived};
+ghost use Rattle.live_program.specs.Sayings.{HasSaidAtStart, HasSaidFor};
 
 use crate::failure::LiveFailure;
 use crate::life::live_in_place;
@@ -22,6 +23,7 @@ use std::io::Write;
 pub const PROGRAM: &str = "station_prompt";
 
 // Lives the day of a command line in its folder.
+#[tactic(auto, using(crate::proofs::SayingLaws::silent_start))]
 fn live_options<Y: Places, S: Source, K: Keyboard, C: Screen<Y::Disk>, E: Write>(
     alloc: Global,
     places: &Y,
@@ -37,6 +39,7 @@ fn live_options<Y: Places, S: Source, K: Keyboard, C: Screen<Y::Disk>, E: Write>
     ensures read { OnOk result (HasTyped (K.text_left keyboard.old) (K.text_left keyboard.new) (K.typed keyboard.old) (K.typed keyboard.new)) }
     ensures fault { IfErr result (IsOptionsFailure Y.Disk.meaning (Y.opens places.now options.now.out.now) (IsDayFault Y.Disk.meaning (C.has_failed screen.new)
         (CanReadNoMore (K.has_failed keyboard.new) (K.typed keyboard.new))) (S.files source.old) options.now) }
+    ensures said { HasSaidAtStart (S.files source.old) options.now (E.contents err.old) (E.contents err.new) }
     ensures kept { S.files source.new ≡ S.files source.old }
 {
     match places.open(alloc, options.out)? {
@@ -47,6 +50,7 @@ fn live_options<Y: Places, S: Source, K: Keyboard, C: Screen<Y::Disk>, E: Write>
 
 /// Lives the day that the words of a command line ask for, of which the first is the program's name. The setup's files are read from the
 /// source; the log and the new files lie in the folder that the words name, which no other run has meanwhile.
+#[tactic(auto, using(crate::proofs::SayingLaws::silent_for, crate::proofs::SayingLaws::said_for))]
 pub fn run_program<Y: Places, S: Source, K: Keyboard, C: Screen<Y::Disk>, E: Write, T: AsStr>(
     alloc: Global,
     places: &Y,
@@ -67,6 +71,8 @@ pub fn run_program<Y: Places, S: Source, K: Keyboard, C: Screen<Y::Disk>, E: Wri
     // It is said why: the words are not taken, the date is bad, or what they ask for has failed for this.
     ensures fault { IfErr result (IsWhyUnlived Y.Disk.meaning (Y.opens places.now) (IsDayFault Y.Disk.meaning (C.has_failed screen.new)
         (CanReadNoMore (K.has_failed keyboard.new) (K.typed keyboard.new))) (S.files source.old) (map T.text words.entry.now)) }
+    // The error stream only grows, by what there is to say of the setup and the log at the start.
+    ensures said { HasSaidFor (S.files source.old) (map T.text words.entry.now) (E.contents err.old) (E.contents err.new) }
     ensures kept { S.files source.new ≡ S.files source.old }
 {
     let options = read_options(alloc, words)?;

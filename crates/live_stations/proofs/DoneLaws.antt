@@ -10,7 +10,7 @@ use Rattle.station_lines.specs.declared.script.line.Line.TheVariants.{Run, Statu
 use Rattle.station_lines.specs.Script.Reading.{read}
 use Rattle.station_lines.proofs.ScriptLaws.MeaningLaws.{read_means}
 use Rattle.live_day.specs.declared.keyboard.Typed.{Typed}
-use Rattle.live_day.specs.declared.keyboard.Typed.TheVariants.{Text, TooLong}
+use Rattle.live_day.specs.declared.keyboard.Typed.TheVariants.{Text, TooLong, Cut}
 use Rattle.live_day.specs.declared.wish.TheConstants.{STATION_WORD_BYTES}
 use Rattle.live_day.specs.Days.{AnswersLine}
 use Rattle.live_day.specs.declared.wish.Wish.{Wish}
@@ -20,9 +20,9 @@ use Rattle.live_stations.specs.Done.{AreDone, AreNamed, AskNothing}
 use Rattle.live_stations.specs.Items.{Item, named, said, item_lines, station_line}
 
 -- the station of a number has the keyboard, where there is one
-seated_there : (stations wanted station next : ℕ) (told : List Told) → 1 ≤ wanted → wanted ≤ stations → IsSeated stations wanted station next told → (next ≡ wanted) × (told ≡ [])
-seated_there stations wanted station next told least most seated =
-    ⊎_elim (λ is. (is.2, is.3)) (λ none. absurd (⊎_elim (λ (low : wanted < 1). omega (arith, low, least)) (λ (high : stations < wanted). omega (arith, high, most)) none.0)) seated
+seated_there : (h : History) (wanted station next : ℕ) (told : List Told) → 1 ≤ wanted → wanted ≤ h.opened.stations → IsSeated h wanted station next told → (next ≡ wanted) × (told ≡ [])
+seated_there h wanted station next told least most seated =
+    ⊎_elim (λ is. (is.2, is.3)) (λ none. absurd (⊎_elim (λ (low : wanted < 1). omega (arith, low, least)) (λ (high : h.opened.stations < wanted). omega (arith, high, most)) none.0)) seated
 
 -- the line that gives a station the keyboard says its number
 station_of : (n m : ℕ) → n < 2 ^ 64 → m < 2 ^ 64 → drop STATION_WORD_BYTES (codes "STATION " ++ decimal n) ≡ decimal m → m ≡ n
@@ -35,7 +35,7 @@ named_made n station old next new told Quit least most small asked made = absurd
 named_made n station old next new told Perform least most small asked made = absurd (asked.1 (decimal n) (refl, refl) n small refl)
 named_made n station old next new told (Station m) least most small asked made =
     let same : m ≡ n = station_of n m small asked.2 asked.1.1 in
-    let there = seated_there old.opened.stations n station next told least most (subst (λ (k : ℕ). IsSeated old.opened.stations k station next told) same made.1) in
+    let there = seated_there old n station next told least most (subst (λ (k : ℕ). IsSeated old k station next told) same made.1) in
     (there.0, made.0, there.1)
 
 -- a line that asks for nothing of the keyboard was done
@@ -56,6 +56,9 @@ done_opened station (Text line) old new told done =
 done_opened station TooLong old new told done =
     ⊎_elim (λ (a : IsLineAnswered station TooLong old new told). answers_opened (Run Bad) station old new a.answer (a.by_meaning (Run Bad) refl))
     (λ (n : IsNotPerformed station TooLong old new told). ap (λ (h : History). h.opened) n.same) done
+done_opened station Cut old new told done =
+    ⊎_elim (λ (a : IsLineAnswered station Cut old new told). absurd (a.whole refl))
+    (λ (n : IsNotPerformed station Cut old new told). ap (λ (h : History). h.opened) n.same) done
 
 pub done_of_obeyed : (items : List Item) (seated next : ℕ) (old new : History) (told : List Told) → AreObeyed (item_lines items) seated old next new told → AreNamed old.opened.stations items → AskNothing items
     → AreDone seated items old new told

@@ -3,13 +3,14 @@ use Rattle.std.proofs.Common.{◌≡◌, ◌∙◌, ℕ, ◌==◌, List, [], ◌
 use Rattle.std.specs.Prelude.{map}
 use Rattle.std.proofs.lemmas.List.{append-nil, map-append}
 use Rattle.live_day.specs.declared.keyboard.Typed.{Typed}
-use Rattle.live_day.specs.declared.keyboard.Typed.TheVariants.{Text, TooLong}
+use Rattle.live_day.specs.declared.keyboard.Typed.TheVariants.{Text, TooLong, Cut}
 use Rattle.live_stations.specs.Items.{Item, named, said, if_said_by, item_line, item_lines, item_of_numbers, lines_of, numbers_of_item, seated_after}
 
 item_again : (i : Item) → item_of_numbers (numbers_of_item i) ≡ i
 item_again (named n) = refl
 item_again (said (Text line)) = refl
 item_again (said TooLong) = refl
+item_again (said Cut) = refl
 
 -- one item more was read
 pub item_more : (lists : List (List ℕ)) (i : Item) → map item_of_numbers (lists ++ numbers_of_item i ∷ []) ≡ map item_of_numbers lists ++ i ∷ []

@@ -6,6 +6,7 @@ mod MeetingLaws
 mod OwnLaws
 mod PairLaws
 mod PrinterLaws
+mod SeatLaws
 mod SetupLaws
 mod TellingLaws
 mod TypistLaws

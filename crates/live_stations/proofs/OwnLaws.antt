@@ -4,7 +4,7 @@ use Rattle.std.specs.Prelude.{map, take, Option}
 use Rattle.std.specs.List.{AllByRecursion}
 use Rattle.std.proofs.lemmas.Bool.Decides.{nat_tests}
 use Rattle.live_day.specs.declared.keyboard.Typed.{Typed}
-use Rattle.live_day.specs.declared.keyboard.Typed.TheVariants.{Text, TooLong}
+use Rattle.live_day.specs.declared.keyboard.Typed.TheVariants.{Text, TooLong, Cut}
 use Rattle.live_day.specs.declared.wish.TheConstants.{STATION_WORD_BYTES}
 use Rattle.live_day.specs.declared.wish.Wish.{Wish}
 use Rattle.live_day.specs.declared.wish.Wish.TheVariants.{Station, Quit, Perform}
@@ -31,6 +31,7 @@ own_text line false word unlike Perform is = refl
 own_line : (line : Typed) → IsNoQuit line → AsksNothing (as_own line)
 own_line (Text line) unlike = own_text line (is_station_word (take STATION_WORD_BYTES line)) refl unlike
 own_line TooLong unlike = λ wish is. is
+own_line Cut unlike = λ wish is. is
 
 own_lines : (lines : List Typed) → AllByRecursion IsNoQuit lines → AllByRecursion AsksNothing (map as_own lines)
 own_lines [] all = tt
@@ -61,12 +62,12 @@ left_at P n (suc k) (x ∷ xs) each inside =
     (rest.0, subst (λ (m : ℕ). P m rest.0) (let same : (n + 1) + k ≡ n + suc k = omega arith in same) rest.1)
 
 -- what was read of stations asks for nothing
-pub own_of_left : {K W : Type 0} (typed : K → List Typed) (contents : W → Option (List ℕ)) (items : List Item) (shown : List ShownLine) (all_heard : Bool) (count : ℕ) (stations : List (StationLeft K W))
-    → AreNamed count items → 1 ≤ count → HaveLeft typed contents items shown all_heard stations → length stations ≡ count → AskNothing items
-own_of_left typed contents items shown all_heard count stations are some each many =
+pub own_of_left : {K W : Type 0} (typed : K → List Typed) (contents : W → Option (List ℕ)) (types reads : ℕ → Option (List ℕ)) (items : List Item) (shown : List ShownLine) (all_heard : Bool) (count : ℕ) (stations : List (StationLeft K W))
+    → AreNamed count items → 1 ≤ count → HaveLeft typed contents types reads items shown all_heard stations → length stations ≡ count → AskNothing items
+own_of_left typed contents types reads items shown all_heard count stations are some each many =
     said_own count 1 items are (omega arith) some
     (λ n low high.
-    let found = left_at (λ k l. IsLeft typed contents items shown all_heard k l) 1 (n - 1) stations each (omega (arith, low, high, many)) in
+    let found = left_at (λ k l. IsLeft typed contents types reads items shown all_heard k l) 1 (n - 1) stations each (omega (arith, low, high, many)) in
     let number : 1 + (n - 1) ≡ n = omega (arith, low) in
-    let left = subst (λ (k : ℕ). IsLeft typed contents items shown all_heard k found.0) number found.1 in
+    let left = subst (λ (k : ℕ). IsLeft typed contents types reads items shown all_heard k found.0) number found.1 in
     all_front AsksNothing (lines_of n 1 items) left.unread (subst (AllByRecursion AsksNothing) left.read (own_lines left.lines left.own)))

@@ -1,6 +1,5 @@
 -- What words and setups say of live stations.
-use Rattle.std.proofs.Common.{◌≡◌, ◌≢◌, ℕ, List, Option, Some, None, Result, Ok, Err, true, refl, subst, inl, inr, IfOk}
-use Rattle.std.specs.declared.alloc.AllocError.{AllocError}
+use Rattle.std.proofs.Common.{◌≡◌, ◌≢◌, ℕ, List, Option, Some, None, Result, Ok, Err, true, refl, subst, inl, inr, IfErr, IfOk}
 use Rattle.clap.specs.Words.{kind_of, takes, Text}
 use Rattle.clap.specs.declared.error.Error.{Error}
 use Rattle.clap.specs.declared.error.kind.ErrorKind.TheVariants.{OutOfMemory}
@@ -13,9 +12,11 @@ use Rattle.live_program.specs.declared.failure.LiveFailure.{LiveFailure}
 use Rattle.live_program.specs.declared.options.Options.{Options}
 use Rattle.live_program.specs.Asked.{prompt_app, IsAskedIn, IsWhyNotRead}
 use Rattle.live_stations.specs.declared.words.LiveSetup.{LiveSetup}
-use Rattle.live_stations.specs.declared.words.LiveSetup.TheVariants.{Live, NotLive}
-use Rattle.live_stations.specs.LiveSetups.{IsLiveAsked, IsSetupAsked}
+use Rattle.live_stations.specs.declared.words.LiveSetup.TheVariants.{Live, NoneLive, NotAsked}
+use Rattle.live_stations.specs.LiveSetups.{IsLiveAsked, IsLiveUnread, IsSetupAsked}
 use Rattle.live_stations.specs.Setups.{IsUntaken}
+use Rattle.office_run.specs.Loading.{IsFileFault}
+use Rattle.office_run.specs.declared.fault.ServeFault.{ServeFault}
 
 -- what was read is not refused
 pub not_refused : {A : Type 0} (refusal : Option LoadFault) (read : Result A LoadFault) (bytes : A) → read ≡ Ok bytes
@@ -30,8 +31,15 @@ not_taken words ending error is why other =
     inl (λ (taken : takes prompt_app words ≡ true). other (said taken))
 
 -- what the setup of asked words says, where it is loaded
-pub asked_live : {S : Type 0} (files : S → Option (List NamedFile)) (failures : S → Option ℕ) (source : S) (words : List Text) (options : Options) (loaded : Result (LiveSetup S) AllocError)
+pub asked_live : {S : Type 0} (files : S → Option (List NamedFile)) (failures : S → Option ℕ) (source : S) (words : List Text) (options : Options) (loaded : Result (LiveSetup S) ServeFault)
     → IsAskedIn words options → options.live ≡ true → IfOk loaded (IsSetupAsked files failures source options.setup.now) → IfOk loaded (IsLiveAsked files failures source words)
 asked_live files failures source words options (Ok (Live left paths)) asked live found = (options, asked, live, found)
-asked_live files failures source words options (Ok (NotLive left)) asked live found = inr (options, asked, live, found)
-asked_live files failures source words options (Err refused) asked live found = found
+asked_live files failures source words options (Ok (NoneLive left)) asked live found = (options, asked, live, found)
+asked_live files failures source words options (Ok (NotAsked left)) asked live found = absurd found
+asked_live files failures source words options (Err fault) asked live found = found
+
+-- and why it is not
+pub unread_live : {A : Type 0} (files : Option (List NamedFile)) (words : List Text) (options : Options) (loaded : Result A ServeFault)
+    → IsAskedIn words options → options.live ≡ true → IfErr loaded (IsFileFault files options.setup.now) → IfErr loaded (IsLiveUnread files words)
+unread_live files words options (Ok found) asked live unread = unread
+unread_live files words options (Err fault) asked live unread = inr (options, asked, live, unread)

@@ -9,6 +9,9 @@ use Rattle.live_stations.specs.declared.day.StationLeft.{StationLeft}
 use Rattle.live_program.specs.declared.failure.LiveFailure.{LiveFailure}
 use Rattle.live_program.specs.declared.lived.Lived.{Lived}
 use Rattle.live_program.specs.declared.running.TheConstants.{PROGRAM}
+use Rattle.clap.specs.Words.{Text}
+use Rattle.folders.specs.declared.named.NamedFile.{NamedFile}
+use Rattle.live_program.specs.Sayings.{HasSaidFor}
 use Rattle.live_program.specs.Endings.{count_line, no_memory, reason, status}
 use Rattle.program_frame.specs.declared.ending.Ending.{Ending}
 use Rattle.program_frame.specs.declared.ending.Failure.{Failure}
@@ -57,14 +60,15 @@ nothing_aside (Ok lived) = refl
 nothing_aside (Err why) = refl
 
 -- what `tell` says of the end of a day
-pub end_told : {O E : Type 0} (printed : O → Option (List ℕ)) (said : E → Option (List ℕ)) (old new : O) (before err : E) (ended : Result Lived (Ending (Failure LiveFailure))) (told : Told)
-    → IfOk ended (λ lived. exit_status told.status ≡ 0) → IfErr ended (λ why. exit_status told.status ≡ ending_status (failure_status status) why)
+pub end_told : {O E : Type 0} (files : Option (List NamedFile)) (words : List Text) (printed : O → Option (List ℕ)) (said : E → Option (List ℕ)) (old new : O) (first before err : E) (ended : Result Lived (Ending (Failure LiveFailure))) (told : Told)
+    → HasSaidFor files words (said first) (said before) → IfOk ended (λ lived. exit_status told.status ≡ 0) → IfErr ended (λ why. exit_status told.status ≡ ending_status (failure_status status) why)
     → IfOk ended (λ lived. OnOk told.out (Appends (printed old) (printed new) (count_line lived.count)))
     → IfErr ended (λ why. IfSome (ending_line (failure_words reason) (Work no_memory) PROGRAM.now why) (λ line. OnOk told.err (Appends (said before) (said err) line)))
     → (IsErr told.out → OnOk told.err (Appends (said before) (said err) (said_before (λ (lived : Lived). []) ended ++ unprinted_line PROGRAM.now)))
-    → IsEndTold printed said old new err ended told
-end_told printed said old new before err ended told done failed text line unprinted = record {
+    → IsEndTold files words printed said old new first err ended told
+end_told files words printed said old new first before err ended told begun done failed text line unprinted = record {
   before = said before;
+  begun = begun;
   done = done;
   failed = failed;
   text = text;

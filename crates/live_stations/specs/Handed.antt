@@ -7,7 +7,7 @@ use Rattle.rtrb.specs.Ring.{sent, received, SameConsumer, SameProducer}
 use Rattle.rtrb.specs.declared.consumer.Consumer.{Consumer}
 use Rattle.rtrb.specs.declared.producer.Producer.{Producer}
 use Rattle.live_day.specs.Shows.{ShownLine}
-use Rattle.live_program.specs.Consoles.{shown_text}
+use Rattle.live_program.specs.Consoles.{shown_text, AppendsFront}
 use Rattle.live_stations.specs.Pairs.{AreFrom}
 use Rattle.live_stations.specs.declared.printer.Printer.{Printer}
 
@@ -48,35 +48,26 @@ pub record HandedValue : Type 0 where
   pub shown : List ShownLine
   pub failed : Bool
 
--- Lines were taken, and the first of them were printed, in order, or all. Where a line was not printed nothing is said of what the writer has taken
--- of it.
-pub record HasTaken (text text_then : Option (List ℕ)) (taken taken_then : List (List ℕ)) (all : Bool) : Type 0 where
-  pub printed : List (List ℕ)
-  pub others : List (List ℕ)
-  pub more : taken_then ≡ taken ++ (printed ++ others)
-  pub before : Option (List ℕ)
-  pub gone : Appends text before (printed_text printed)
-  pub whole : all ≡ true → (others ≡ []) × (text_then ≡ before)
+-- What a screen has taken of these lines, since this stood there: all their text, or, where one was not printed, the first of it and nothing else.
+abbrev pub HasShown : Option (List ℕ) → Option (List ℕ) → List (List ℕ) → Bool → Type 0
+HasShown start now lines true = Appends start now (printed_text lines)
+HasShown start now lines false = AppendsFront start now (printed_text lines)
 
--- a writer has taken nothing, as far as that is known
-abbrev pub IsFresh : Option (List ℕ) → Type 0
-IsFresh None = Unit {0}
-IsFresh (Some text) = text ≡ []
+-- Lines were taken, and the screen has shown them so.
+pub record HasTaken (start now : Option (List ℕ)) (taken taken_then : List (List ℕ)) (all : Bool) : Type 0 where
+  pub lines : List (List ℕ)
+  pub more : taken_then ≡ taken ++ lines
+  pub shown : HasShown start now lines all
 
--- a screen that was opened has taken these lines, and no others where all were printed; of one that was not there are none
-abbrev pub IsPrintedAt : {W : Type 0} → (W → Option (List ℕ)) → Option W → List (List ℕ) → Bool → Type 0
-IsPrintedAt contents None printed all = printed ≡ []
-IsPrintedAt contents (Some screen) printed all =
-    (start : Option (List ℕ)) × (before : Option (List ℕ)) × IsFresh start × Appends start before (printed_text printed) × (all ≡ true → contents screen ≡ before)
+-- A screen that was opened has shown these lines so, after what stood on it. Of one that was not, all are said to be shown only where there are none.
+abbrev pub IsPrintedAt : {W : Type 0} → (W → Option (List ℕ)) → Option (List ℕ) → Option W → List (List ℕ) → Bool → Type 0
+IsPrintedAt contents start None lines all = all ≡ true → lines ≡ []
+IsPrintedAt contents start (Some screen) lines all = HasShown start (contents screen) lines all
 
--- Answers were received, and the first of them were printed, in order.
-pub record IsPrintedBy {W : Type 0} (contents : W → Option (List ℕ)) (e : Printer W) : Type 0 where
-  pub printed : List (List ℕ)
-  pub others : List (List ℕ)
-  pub received_is : received e.answers ≡ printed ++ others
-  pub whole : e.all_printed ≡ true → others ≡ []
-  pub text : IsPrintedAt contents e.screen printed e.all_printed
+-- what was received was printed, on a screen on which this stood
+abbrev pub IsPrintedBy : {W : Type 0} → (W → Option (List ℕ)) → Option (List ℕ) → Printer W → Type 0
+IsPrintedBy contents start e = IsPrintedAt contents start e.screen (received e.answers) e.all_printed
 
--- they were received by this end of a ring
-abbrev pub IsPrinterEnd : {W : Type 0} → (W → Option (List ℕ)) → AnswerEnd → Printer W → Type 0
-IsPrinterEnd contents first e = SameConsumer first e.answers × IsPrintedBy contents e
+-- it was received by this end of a ring
+abbrev pub IsPrinterEnd : {W : Type 0} → (W → Option (List ℕ)) → Option (List ℕ) → AnswerEnd → Printer W → Type 0
+IsPrinterEnd contents start first e = SameConsumer first e.answers × IsPrintedBy contents start e

@@ -2,7 +2,7 @@
 use Rattle.std.specs.Prelude.{Bool, true, false, ℕ, zero, suc, ◌==◌, List, [], ◌∷◌, ◌++◌, codes, map, take}
 use Rattle.std.specs.Fmt.{decimal}
 use Rattle.live_day.specs.declared.keyboard.Typed.{Typed}
-use Rattle.live_day.specs.declared.keyboard.Typed.TheVariants.{Text, TooLong}
+use Rattle.live_day.specs.declared.keyboard.Typed.TheVariants.{Text, TooLong, Cut}
 use Rattle.live_day.specs.declared.wish.TheConstants.{STATION_WORD_BYTES}
 use Rattle.live_day.specs.Wishes.{is_station_word}
 
@@ -48,15 +48,17 @@ unless_station false line = Text line
 abbrev pub as_own : Typed → Typed
 as_own (Text line) = unless_station (is_station_word (take STATION_WORD_BYTES line)) line
 as_own TooLong = TooLong
+as_own Cut = Cut
 
 -- an item, as a list of numbers
 abbrev pub numbers_of_item : Item → List ℕ
 numbers_of_item (named n) = 0 ∷ (n ∷ [])
 numbers_of_item (said (Text line)) = 1 ∷ line
 numbers_of_item (said TooLong) = []
+numbers_of_item (said Cut) = 0 ∷ []
 
 abbrev pub item_of_numbers : List ℕ → Item
 item_of_numbers [] = said TooLong
 item_of_numbers (zero ∷ (n ∷ rest)) = named n
-item_of_numbers (zero ∷ []) = named 0
+item_of_numbers (zero ∷ []) = said Cut
 item_of_numbers (suc k ∷ line) = said (Text line)

@@ -7,9 +7,6 @@ use Rattle.folders.specs.Files.{load_refusal, IsFileOf}
 use Rattle.station_lines.specs.declared.setup.entry.SetupEntry.{SetupEntry}
 use Rattle.station_lines.specs.declared.setup.entry.SetupEntry.TheVariants.{Station}
 use Rattle.station_lines.specs.Setup.{IsSetup}
-use Rattle.office_run.specs.declared.fault.FileFault.{FileFault}
-use Rattle.office_run.specs.declared.fault.ServeFault.TheVariants.{File}
-use Rattle.office_run.specs.Loading.{IsFailure, IsUnloaded}
 use Rattle.live_program.specs.Asked.{prompt_app, IsDateBadIn}
 
 -- The file of a path was read, and these are its bytes: a load of it is not refused.
@@ -43,10 +40,6 @@ abbrev pub HasNoLive : List ℕ → Type 0
 HasNoLive text =
     ((number : ℕ) × IsSetup text (Err number))
     ⊎ ((entries : List SetupEntry) × IsSetup text (Ok entries) × IsNoneOrMany (length (scripts_in entries)))
-
--- Of the setup of this path no bytes are had: why, and what this says of the count of loads that failed.
-abbrev pub IsSetupUnread : Option (List NamedFile) → Option ℕ → Option ℕ → List ℕ → Type 0
-IsSetupUnread files before after path = (why : FileFault) × IsUnloaded files path why × IsFailure files before after (File path why)
 
 -- words that can't be read: they are not taken, or the date is bad
 abbrev pub IsUntaken : List Text → Type 0

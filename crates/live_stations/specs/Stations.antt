@@ -21,20 +21,35 @@ use Rattle.live_day.specs.Shows.{ShownLine}
 use Rattle.live_stations.specs.declared.day.StationLeft.{StationLeft}
 use Rattle.live_stations.specs.declared.hearing.Hearing.{Hearing}
 use Rattle.live_stations.specs.declared.printer.Printer.{Printer}
+use Rattle.live_stations.specs.declared.threads.Prints.{Prints}
 use Rattle.live_stations.specs.declared.threads.StationEnds.{StationEnds}
+use Rattle.live_stations.specs.declared.threads.Types.{Types}
 use Rattle.live_stations.specs.declared.typist.Typist.{Typist}
 use Rattle.live_stations.specs.Done.{AreNamed, AskNothing}
 use Rattle.live_stations.specs.Handed.{AnswerEnd, AnswerRing, shown_to, AreHandedFrom, IsPrintedAt, IsPrintedBy, IsPrinterEnd}
 use Rattle.live_stations.specs.Hearings.{AreHeardFrom, AreOver, IsHeardOf}
 use Rattle.live_stations.specs.Items.{as_own, item_lines, lines_of, Item}
 use Rattle.live_stations.specs.Pairs.{AreFrom, EachFrom}
-use Rattle.live_stations.specs.Typists.{typed_at, IsRest, IsSentBy, IsTypistEnd, LineRing}
+use Rattle.live_stations.specs.Typists.{typed_at, AreTyped, IsRest, IsSentBy, IsTypistEnd, LineRing}
 
-abbrev pub lines_in : StationEnds → LineRing
-lines_in e = e.lines
+-- a text of each station, where it is known
+abbrev pub StationTexts : Type 0
+StationTexts = ℕ → Option (List ℕ)
 
-abbrev pub answers_in : StationEnds → AnswerEnd
-answers_in e = e.answers
+-- a station's end of its ring of lines, of the terminals where it types
+abbrev pub line_end : {T : Type 0} → T → StationEnds → T × ℕ × LineRing
+line_end terminals e = (terminals, e.station, e.lines)
+
+-- a station's end of its ring of answers, of the terminals where it reads
+abbrev pub answer_end : {T : Type 0} → T → StationEnds → T × ℕ × AnswerEnd
+answer_end terminals e = (terminals, e.station, e.answers)
+
+-- and those of which a thread has promised what it leaves
+abbrev pub typing_of : {T : Type 0} → Types T → T × ℕ × LineRing
+typing_of promise = (promise.terminals.value, promise.station, promise.lines.value)
+
+abbrev pub printing_of : {T : Type 0} → Prints T → T × ℕ × AnswerEnd
+printing_of promise = (promise.terminals.value, promise.station, promise.answers.value)
 
 -- nothing was sent or taken by a station's ends of its rings
 pub record IsUnused (e : StationEnds) : Type 0 where
@@ -48,33 +63,45 @@ AreUnused ends = AllByRecursion IsUnused ends
 abbrev pub AreOf : ℕ → List StationEnds → Type 0
 AreOf count ends = AllByRecursion (λ e. (1 ≤ e.station) × (e.station ≤ count)) ends
 
--- the threads that had these ends of rings have left these
-abbrev pub HaveTyped : {K : Type 0} → (K → List Typed) → List LineRing → List (Typist K) → Type 0
-HaveTyped typed first ends = AreFrom (λ n f e. IsTypistEnd typed f e) 1 first ends
+-- a thread that had this end of a ring has left this, of its station at its terminals
+abbrev pub IsTypistOf : {K T : Type 0} → (K → List Typed) → (T → ℕ → Option (List ℕ)) → ℕ → T × ℕ × LineRing → Typist K → Type 0
+IsTypistOf typed types n first e = IsTypistEnd typed (types first.0 first.1) first.2 e
 
-abbrev pub HavePrinted : {W : Type 0} → (W → Option (List ℕ)) → List AnswerEnd → List (Printer W) → Type 0
-HavePrinted contents first ends = AreFrom (λ n f e. IsPrinterEnd contents f e) 1 first ends
+abbrev pub IsPrinterOf : {W T : Type 0} → (W → Option (List ℕ)) → (T → ℕ → Option (List ℕ)) → ℕ → T × ℕ × AnswerEnd → Printer W → Type 0
+IsPrinterOf contents reads n first e = IsPrinterEnd contents (reads first.0 first.1) first.2 e
 
--- A station's lines were read as it typed them, in order, and its answers were printed as they were shown, in order: of both the first ones,
--- or all, where that is said.
-pub record IsLeft {K W : Type 0} (typed : K → List Typed) (contents : W → Option (List ℕ)) (items : List Item) (shown : List ShownLine) (all_heard : Bool)
-    (station : ℕ) (left : StationLeft K W) : Type 0 where
+-- and so those that had these
+abbrev pub HaveTyped : {K T : Type 0} → (K → List Typed) → (T → ℕ → Option (List ℕ)) → List (T × ℕ × LineRing) → List (Typist K) → Type 0
+HaveTyped typed types first ends = AreFrom (IsTypistOf typed types) 1 first ends
+
+abbrev pub HavePrinted : {W T : Type 0} → (W → Option (List ℕ)) → (T → ℕ → Option (List ℕ)) → List (T × ℕ × AnswerEnd) → List (Printer W) → Type 0
+HavePrinted contents reads first ends = AreFrom (IsPrinterOf contents reads) 1 first ends
+
+-- and so the threads that had the ends of these stations
+abbrev pub HaveTypedFor : {K : Type 0} → (K → List Typed) → StationTexts → List StationEnds → List (Typist K) → Type 0
+HaveTypedFor typed types stations ends = AreFrom (λ n s e. IsTypistEnd typed (types s.station) s.lines e) 1 stations ends
+
+abbrev pub HavePrintedFor : {W : Type 0} → (W → Option (List ℕ)) → StationTexts → List StationEnds → List (Printer W) → Type 0
+HavePrintedFor contents reads stations ends = AreFrom (λ n s e. IsPrinterEnd contents (reads s.station) s.answers e) 1 stations ends
+
+-- A station's lines were read as it typed them of its text, in order, and its answers were printed as they were shown, in order, on its own screen after
+-- what stood there: of both the first ones, or all, where that is said.
+pub record IsLeft {K W : Type 0} (typed : K → List Typed) (contents : W → Option (List ℕ)) (types reads : StationTexts) (items : List Item)
+    (shown : List ShownLine) (all_heard : Bool) (station : ℕ) (left : StationLeft K W) : Type 0 where
   pub lines : List Typed
   pub rest : List Typed
   pub typed_is : typed_at typed left.keyboard ≡ lines ++ rest
   pub own : AllByRecursion IsNoQuit lines
   pub end : IsRest left.end rest
+  pub are : AreTyped (types station) (typed_at typed left.keyboard) left.end
   pub unread : List Typed
   pub read : map as_own lines ≡ lines_of station 1 items ++ unread
   pub all : all_heard ≡ true → unread ≡ []
-  pub printed : List (List ℕ)
-  pub unprinted : List (List ℕ)
-  pub shown_is : shown_to station shown ≡ printed ++ unprinted
-  pub whole : left.all_printed ≡ true → unprinted ≡ []
-  pub text : IsPrintedAt contents left.screen printed left.all_printed
+  pub printed : IsPrintedAt contents (reads station) left.screen (shown_to station shown) left.all_printed
 
-abbrev pub HaveLeft : {K W : Type 0} → (K → List Typed) → (W → Option (List ℕ)) → List Item → List ShownLine → Bool → List (StationLeft K W) → Type 0
-HaveLeft typed contents items shown all_heard stations = EachFrom (IsLeft typed contents items shown all_heard) 1 stations
+abbrev pub HaveLeft : {K W : Type 0} → (K → List Typed) → (W → Option (List ℕ)) → StationTexts → StationTexts → List Item → List ShownLine → Bool
+    → List (StationLeft K W) → Type 0
+HaveLeft typed contents types reads items shown all_heard stations = EachFrom (IsLeft typed contents types reads items shown all_heard) 1 stations
 
 -- A station's ring of lines, of which nothing was sent or heard: the day has one end of it and the station the other.
 pub record IsLineRing (station : ℕ) (h : Hearing) (e : StationEnds) : Type 0 where
@@ -87,15 +114,16 @@ pub record IsLineRing (station : ℕ) (h : Hearing) (e : StationEnds) : Type 0 w
   pub unended : h.is_over ≡ false
 
 -- A station's ring of answers, of which nothing was handed or taken.
-pub record IsAnswerRing (answers : AnswerRing) (e : StationEnds) : Type 0 where
+pub record IsAnswerRing (station : ℕ) (answers : AnswerRing) (e : StationEnds) : Type 0 where
   pub pair : IsPair answers e.answers
+  pub ends_of : e.station ≡ station
   pub unhanded : sent answers ≡ []
   pub untaken : received e.answers ≡ []
 
 -- and so of each station from this one on
 pub record AreRings (n : ℕ) (hs : List Hearing) (rings : List AnswerRing) (es : List StationEnds) : Type 0 where
   pub lines : AreFrom (λ k h e. IsLineRing k h e) n hs es
-  pub answers : AreFrom (λ k a e. IsAnswerRing a e) n rings es
+  pub answers : AreFrom (λ k a e. IsAnswerRing k a e) n rings es
 
 -- the ends of stations' rings belong together
 pub record AreMet {K W : Type 0} (n : ℕ) (hs : List Hearing) (rings : List AnswerRing) (ts : List (Typist K)) (ps : List (Printer W)) : Type 0 where
@@ -104,20 +132,23 @@ pub record AreMet {K W : Type 0} (n : ℕ) (hs : List Hearing) (rings : List Ans
   pub many : length hs ≡ length rings
 
 -- What was heard of a station is what it said, and what was typed there was sent.
-pub record IsHeardOfTypist {K : Type 0} (typed : K → List Typed) (items : List Item) (station : ℕ) (h : Hearing) (t : Typist K) : Type 0 where
+pub record IsHeardOfTypist {K : Type 0} (typed : K → List Typed) (types : StationTexts) (items : List Item) (station : ℕ) (h : Hearing)
+    (t : Typist K) : Type 0 where
   pub heard : IsHeardOf (lines_of station 1 items) h
-  pub typed_there : IsSentBy typed t
+  pub typed_there : IsSentBy typed (types station) t
 
 -- To a station was handed what it was shown, and what was received there was printed.
-pub record IsHandedToPrinter {W : Type 0} (contents : W → Option (List ℕ)) (shown : List ShownLine) (station : ℕ) (answers : AnswerRing) (p : Printer W) : Type 0 where
+pub record IsHandedToPrinter {W : Type 0} (contents : W → Option (List ℕ)) (reads : StationTexts) (shown : List ShownLine) (station : ℕ)
+    (answers : AnswerRing) (p : Printer W) : Type 0 where
   pub handed : sent answers ≡ shown_to station shown
-  pub printed_there : IsPrintedBy contents p
+  pub printed_there : IsPrintedBy contents (reads station) p
 
 -- What is known of stations where the ends of their rings meet again.
-pub record AreMeeting {K W : Type 0} (typed : K → List Typed) (contents : W → Option (List ℕ)) (items : List Item) (shown : List ShownLine) (all_heard : Bool) (n : ℕ)
+pub record AreMeeting {K W : Type 0} (typed : K → List Typed) (contents : W → Option (List ℕ)) (types reads : StationTexts) (items : List Item)
+    (shown : List ShownLine) (all_heard : Bool) (n : ℕ)
     (hs : List Hearing) (rings : List AnswerRing) (ts : List (Typist K)) (ps : List (Printer W)) : Type 0 where
-  pub heard : AreFrom (λ k h t. IsHeardOfTypist typed items k h t) n hs ts
-  pub handed : AreFrom (λ k a p. IsHandedToPrinter contents shown k a p) n rings ps
+  pub heard : AreFrom (λ k h t. IsHeardOfTypist typed types items k h t) n hs ts
+  pub handed : AreFrom (λ k a p. IsHandedToPrinter contents reads shown k a p) n rings ps
   pub over : all_heard ≡ true → AreOver hs
 
 -- how a day of these items ended, with these lines shown
@@ -136,8 +167,8 @@ IsWhyNotLived m opens files words unshown items ended =
 
 -- A day was lived, and what the threads of its stations have left of it.
 pub record IsScopeLeft {D K W O E : Type 0} (m : DiskMeaning D) (opens : List ℕ → D → Type 0) (files : Option (List NamedFile)) (words : List Text)
-    (typed : K → List Typed) (contents : W → Option (List ℕ)) (hearings : List Hearing) (answers : List AnswerRing) (stations : List StationEnds)
-    (left : ScopeLeft K W O E) : Type 0 where
+    (typed : K → List Typed) (contents : W → Option (List ℕ)) (types reads : StationTexts) (hearings : List Hearing) (answers : List AnswerRing)
+    (stations : List StationEnds) (left : ScopeLeft K W O E) : Type 0 where
   pub items : List Item
   pub shown : List ShownLine
   pub unshown : Bool
@@ -147,19 +178,19 @@ pub record IsScopeLeft {D K W O E : Type 0} (m : DiskMeaning D) (opens : List �
   pub over : left.all_heard ≡ true → AreOver left.hearings.items
   pub are_named : AreNamed (length left.hearings.items) items
   pub handed : AreHandedFrom shown 1 answers left.answers.items
-  pub typed_there : HaveTyped typed (map lines_in stations) left.typists.items
-  pub printed_there : HavePrinted contents (map answers_in stations) left.printers.items
+  pub typed_there : HaveTypedFor typed types stations left.typists.items
+  pub printed_there : HavePrintedFor contents reads stations left.printers.items
 
 -- A day of several stations: it was lived of what they said, and each has left this. Only these are named, and what they say asks for nothing of
 -- the keyboard.
 pub record IsStationsDay {D K W O E : Type 0} (m : DiskMeaning D) (opens : List ℕ → D → Type 0) (files : Option (List NamedFile)) (words : List Text)
-    (typed : K → List Typed) (contents : W → Option (List ℕ)) (count : ℕ) (day : StationsDay K W O E) : Type 0 where
+    (typed : K → List Typed) (contents : W → Option (List ℕ)) (types reads : StationTexts) (count : ℕ) (day : StationsDay K W O E) : Type 0 where
   pub items : List Item
   pub shown : List ShownLine
   pub unshown : Bool
   pub lived : IsLivedBy m opens files words day.all_heard items shown day.ended
   pub why : IsWhyNotLived m opens files words unshown items day.ended
-  pub each : HaveLeft typed contents items shown day.all_heard day.stations.items
+  pub each : HaveLeft typed contents types reads items shown day.all_heard day.stations.items
   pub many : length day.stations.items ≡ count
   pub are_named : AreNamed count items
   pub own : 1 ≤ count → AskNothing items

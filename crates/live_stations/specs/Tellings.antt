@@ -2,6 +2,8 @@
 use Rattle.std.specs.Prelude.{◌≡◌, ◌≤◌, Bool, true, false, ℕ, ◌+◌, List, [], ◌∷◌, ◌++◌, codes, Option, Some, None, Result, IfErr, IfOk, IfSome, IsErr, OnOk}
 use Rattle.std.specs.Io.KnownBytes.{Appends}
 use Rattle.std.specs.Process.{exit_status}
+use Rattle.clap.specs.Words.{Text}
+use Rattle.folders.specs.declared.named.NamedFile.{NamedFile}
 use Rattle.std.specs.Fmt.{decimal}
 use Rattle.station_lines.specs.declared.script.format.TheConstants.{LF}
 use Rattle.live_day.specs.declared.keyboard.TypingFault.TheVariants as typing
@@ -16,6 +18,7 @@ use Rattle.live_program.specs.declared.failure.LiveFailure.TheVariants as live
 use Rattle.live_program.specs.declared.lived.Lived.{Lived}
 use Rattle.live_program.specs.declared.running.TheConstants.{PROGRAM}
 use Rattle.live_program.specs.Endings.{count_line, no_memory, reason, status}
+use Rattle.live_program.specs.Sayings.{HasSaidFor}
 use Rattle.program_frame.specs.declared.telling.Told.{Told}
 use Rattle.program_frame.specs.Endings.{ending_line, ending_status, failure_status, failure_words}
 use Rattle.program_frame.specs.Telling.{unprinted_line}
@@ -55,6 +58,14 @@ abbrev pub stations_text : {K W : Type 0} → ℕ → List (StationLeft K W) →
 stations_text n [] = []
 stations_text n (left ∷ stations) = station_text n left.end left.all_printed ++ stations_text (n + 1) stations
 
+-- whether a station was shown all its answers, and would have been shown more
+abbrev pub shows_all : LinesEnd → Bool → Bool
+shows_all ended.Unprinted all_printed = false
+shows_all end all_printed = all_printed
+
+abbrev pub is_shown_all : {K W : Type 0} → StationLeft K W → Bool
+is_shown_all left = shows_all left.end left.all_printed
+
 -- why no day was lived where a station has no threads
 abbrev pub unlived : ThreadFault → Ending (Failure LiveFailure)
 unlived (thread.NoThread station) = ending.Failed (failure.Work (live.Serve (serve.Run (run.NoThread station))))
@@ -65,10 +76,12 @@ abbrev pub IsThreadFault : ℕ → ThreadFault → Type 0
 IsThreadFault count (thread.NoThread station) = (1 ≤ station) × (station ≤ count)
 IsThreadFault count thread.NoMemory = Unit {0}
 
--- The end of a day was told: how many commands there were, on the one stream, or why it ended before its time, on the other, after what was said there before.
-pub record IsEndTold {O E : Type 0} (printed : O → Option (List ℕ)) (said : E → Option (List ℕ)) (old new : O) (err : E)
-    (ended : Result Lived (Ending (Failure LiveFailure))) (told : Told) : Type 0 where
+-- The end of a day was told: how many commands there were, on the one stream, or why it ended before its time, on the other, after what was said there at
+-- its start and nothing else.
+pub record IsEndTold {O E : Type 0} (files : Option (List NamedFile)) (words : List Text) (printed : O → Option (List ℕ)) (said : E → Option (List ℕ))
+    (old new : O) (first err : E) (ended : Result Lived (Ending (Failure LiveFailure))) (told : Told) : Type 0 where
   pub before : Option (List ℕ)
+  pub begun : HasSaidFor files words (said first) before
   pub done : IfOk ended (λ lived. exit_status told.status ≡ 0)
   pub failed : IfErr ended (λ why. exit_status told.status ≡ ending_status (failure_status status) why)
   pub text : IfOk ended (λ lived. OnOk told.out (Appends (printed old) (printed new) (count_line lived.count)))

@@ -1,6 +1,6 @@
 //! A day of several stations, each with a keyboard and a screen of its own.
 
-ghost use Rattle.std.specs.Prelude.{◌≡◌, ◌≤◌, ℕ, Bool, true, List, [], length, map, vec_capacity, vec_len, IfErr, IfOk};
+ghost use Rattle.std.specs.Prelude.{◌≡◌, ◌≤◌, ℕ, Bool, true, List, [], length, map, vec_capacity, vec_len, IfErr, IfOk, Option};
 ghost use Rattle.rtrb.specs.Ring.{IsPair};
 ghost use Rattle.live_day.specs.Shows.{ShownLine};
 ghost use Rattle.live_stations.specs.Hearings.{IsOver};
@@ -91,7 +91,7 @@ fn ring_station(
     station: u32,
 ) -> Result<(Hearing, Producer<Bytes>, StationEnds), AllocError>
     ensures lines { IfOk result (λ ends. IsLineRing station ends.0 ends.2) }
-    ensures answers { IfOk result (λ ends. IsAnswerRing ends.1 ends.2) }
+    ensures answers { IfOk result (λ ends. IsAnswerRing station ends.1 ends.2) }
 {
     let (lines, heard) = RingBuffer::new(alloc, LINES_AHEAD)?;
     let (handed, answers) = RingBuffer::new(alloc, ANSWERS_AHEAD)?;
@@ -163,8 +163,9 @@ fn live_in_scope<
     requires hearings { ends.hearings.items ≡ J.hearings }
     requires answers { ends.answers.items ≡ J.answers }
     ensures left { IfOk result (IsScopeLeft Y.Disk.meaning (Y.opens asked.entry.places.now) (S.files asked.entry.source) (map W.text asked.entry.words.now)
-        T.Keyboard.typed T.Screen.contents ends.hearings.items ends.answers.items ends.stations.items) }
-    ensures told { IfOk result (λ left. IsEndTold O.contents E.contents asked.entry.out left.out left.err left.ended left.told) }
+        T.Keyboard.typed T.Screen.contents (T.types terminals.now) (T.reads terminals.now) ends.hearings.items ends.answers.items ends.stations.items) }
+    ensures told { IfOk result (λ left. IsEndTold (S.files asked.entry.source) (map W.text asked.entry.words.now) O.contents E.contents
+        asked.entry.out left.out asked.entry.err left.err left.ended left.told) }
     ensures fault { IfErr result (IsThreadFault (length ends.hearings.items)) }
 {
     let Ends {
@@ -212,8 +213,8 @@ fn live_in_scope<
         all_heard: keyboard.has_ended(),
         hearings: keyboard.into_hearings(),
         answers: screen.into_rings(),
-        typists: join_typists(rt, threads.typists, typists),
-        printers: join_printers(rt, threads.printers, printers),
+        typists: join_typists::<T, R>(rt, threads.typists, typists),
+        printers: join_printers::<T, R>(rt, threads.printers, printers),
     })
 }
 
@@ -233,9 +234,9 @@ fn meet<K: Keyboard + Drop, W: Write + Drop>(
 ) -> StationLeft<K, W>
     requires lines { IsPair typist.lines hearing.lines }
     requires answers { IsPair answers printer.answers }
-    ensures left { (items : List Item) (shown : List ShownLine) (all_heard : Bool) (station : ℕ) → IsHeardOfTypist K.typed items station hearing typist
-        → IsHandedToPrinter W.contents shown station answers printer → (all_heard ≡ true → IsOver hearing)
-        → IsLeft K.typed W.contents items shown all_heard station result }
+    ensures left { (types reads : ℕ → Option (List ℕ)) (items : List Item) (shown : List ShownLine) (all_heard : Bool) (station : ℕ)
+        → IsHeardOfTypist K.typed types items station hearing typist → IsHandedToPrinter W.contents reads shown station answers printer
+        → (all_heard ≡ true → IsOver hearing) → IsLeft K.typed W.contents types reads items shown all_heard station result }
 {
     let Hearing { mut lines, .. } = hearing;
     let mut answers = answers;
@@ -273,9 +274,9 @@ fn meet_all<K: Keyboard + Drop, W: Write + Drop>(
     requires room { vec_len hearings ≤ vec_capacity room }
     requires met { AreMet 1 hearings.items answers.items typists.items printers.items }
     ensures many { length result.items ≡ length hearings.items }
-    ensures left { (items : List Item) (shown : List ShownLine) (all_heard : Bool)
-        → AreMeeting K.typed W.contents items shown all_heard 1 hearings.items answers.items typists.items printers.items
-        → HaveLeft K.typed W.contents items shown all_heard result.items }
+    ensures left { (types reads : ℕ → Option (List ℕ)) (items : List Item) (shown : List ShownLine) (all_heard : Bool)
+        → AreMeeting K.typed W.contents types reads items shown all_heard 1 hearings.items answers.items typists.items printers.items
+        → HaveLeft K.typed W.contents types reads items shown all_heard result.items }
 {
     let mut hearings = hearings.into_iter();
     let mut answers = answers.into_iter();
@@ -314,8 +315,9 @@ fn live_by_rings<
     requires hearings { ends.hearings.items ≡ J.hearings }
     requires answers { ends.answers.items ≡ J.answers }
     ensures left { IfOk result (IsScopeLeft Y.Disk.meaning (Y.opens asked.entry.places.now) (S.files asked.entry.source) (map W.text asked.entry.words.now)
-        T.Keyboard.typed T.Screen.contents ends.hearings.items ends.answers.items ends.stations.items) }
-    ensures told { IfOk result (λ left. IsEndTold O.contents E.contents asked.entry.out left.out left.err left.ended left.told) }
+        T.Keyboard.typed T.Screen.contents (T.types terminals.now) (T.reads terminals.now) ends.hearings.items ends.answers.items ends.stations.items) }
+    ensures told { IfOk result (λ left. IsEndTold (S.files asked.entry.source) (map W.text asked.entry.words.now) O.contents E.contents
+        asked.entry.out left.out asked.entry.err left.err left.ended left.told) }
     ensures fault { IfErr result (IsThreadFault (length ends.hearings.items)) }
 {
     thread::scope(
@@ -326,8 +328,10 @@ fn live_by_rings<
             requires hearings { ends.hearings.items ≡ J.hearings }
             requires answers { ends.answers.items ≡ J.answers }
             ensures left { IfOk result (IsScopeLeft Y.Disk.meaning (Y.opens asked.entry.places.now) (S.files asked.entry.source) (map W.text asked.entry.words.now)
-                T.Keyboard.typed T.Screen.contents ends.hearings.items ends.answers.items ends.stations.items) }
-            ensures told { IfOk result (λ left. IsEndTold O.contents E.contents asked.entry.out left.out left.err left.ended left.told) }
+                T.Keyboard.typed T.Screen.contents (T.types terminals.entry.now) (T.reads terminals.entry.now) ends.hearings.items ends.answers.items
+                ends.stations.items) }
+            ensures told { IfOk result (λ left. IsEndTold (S.files asked.entry.source) (map W.text asked.entry.words.now) O.contents E.contents
+                asked.entry.out left.out asked.entry.err left.err left.ended left.told) }
             ensures fault { IfErr result (IsThreadFault (length ends.hearings.items)) }
         {
             live_in_scope::<_, J, Y, S, T, O, E, R, W>(
@@ -359,8 +363,9 @@ fn live_with<
     requires hearings { ends.hearings.items ≡ J.hearings }
     requires answers { ends.answers.items ≡ J.answers }
     ensures day { IfOk result (IsStationsDay Y.Disk.meaning (Y.opens asked.entry.places.now) (S.files asked.entry.source) (map W.text asked.entry.words.now)
-        T.Keyboard.typed T.Screen.contents (length ends.hearings.items)) }
-    ensures told { IfOk result (λ day. IsEndTold O.contents E.contents asked.entry.out day.out day.err day.ended day.told) }
+        T.Keyboard.typed T.Screen.contents (T.types terminals.now) (T.reads terminals.now) (length ends.hearings.items)) }
+    ensures told { IfOk result (λ day. IsEndTold (S.files asked.entry.source) (map W.text asked.entry.words.now) O.contents E.contents
+        asked.entry.out day.out asked.entry.err day.err day.ended day.told) }
     ensures fault { IfErr result (IsThreadFault (length ends.hearings.items)) }
 {
     let mut room = Vec::new(alloc);
@@ -400,8 +405,9 @@ pub fn live_stations<
     asked: Asked<'_, Y, S, O, E, W>,
 ) -> Result<StationsDay<T::Keyboard, T::Screen, O, E>, ThreadFault>
     ensures day { IfOk result (IsStationsDay Y.Disk.meaning (Y.opens asked.entry.places.now) (S.files asked.entry.source) (map W.text asked.entry.words.now)
-        T.Keyboard.typed T.Screen.contents stations) }
-    ensures told { IfOk result (λ day. IsEndTold O.contents E.contents asked.entry.out day.out day.err day.ended day.told) }
+        T.Keyboard.typed T.Screen.contents (T.types terminals.now) (T.reads terminals.now) stations) }
+    ensures told { IfOk result (λ day. IsEndTold (S.files asked.entry.source) (map W.text asked.entry.words.now) O.contents E.contents
+        asked.entry.out day.out asked.entry.err day.err day.ended day.told) }
     ensures fault { IfErr result (IsThreadFault stations) }
 {
     let Ok(count) = u32::try_from(stations) else {

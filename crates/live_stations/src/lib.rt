@@ -29,9 +29,9 @@ mod with_setup;
 mod words;
 
 pub use day::{Asked, StationLeft, StationsDay, live_stations};
-pub use law::lines_are_done_for_who_said_them;
+pub use law::{lines_are_done_for_who_said_them, tables_are_opened_for_live_stations};
 pub use paths::StationPaths;
-pub use telling::tell_stations;
+pub use telling::{tell_day, tell_stations};
 pub use terminals::Terminals;
 pub use threads::ThreadFault;
 pub use typist::LinesEnd;

@@ -5,7 +5,7 @@ use byte_io::Bytes;
 use live_program::TypedLines;
 use std::alloc::Global;
 use std::fs::{File, OpenOptions};
-use std::io::BufReader;
+use std::io::{BufReader, IsTerminal};
 use std::rt::Files;
 use std::str;
 
@@ -38,6 +38,13 @@ impl<'a, R: Files<File = File>> StationPaths<'a, R> {
 }
 
 impl<'a, R: Files<File = File>> Terminals for StationPaths<'a, R> {
+    ghost use Rattle.std.specs.Prelude.{None};
+
+    // What comes by a pipe is no function of any value.
+    ghost types = { λ terminals station. None };
+
+    ghost reads = { λ terminals station. None };
+
     type Keyboard = TypedLines<BufReader<File>, File>;
 
     type Screen = File;
@@ -49,7 +56,13 @@ impl<'a, R: Files<File = File>> Terminals for StationPaths<'a, R> {
     ) -> Option<TypedLines<BufReader<File>, File>> {
         let path = str::from_utf8(self.path(station)?.as_slice()).ok()?;
         let file = File::open(self.rt, path).ok()?;
-        Some(TypedLines::new(BufReader::new(alloc, file).ok()?, None))
+        let is_terminal = file.is_terminal();
+        let reader = BufReader::new(alloc, file).ok()?;
+        if is_terminal {
+            Some(TypedLines::at_terminal(reader, None))
+        } else {
+            Some(TypedLines::new(reader, None))
+        }
     }
 
     fn open_screen(&self, alloc: Global, station: u32) -> Option<File> {

@@ -2,7 +2,7 @@
 
 ghost use Rattle.std.specs.Prelude.{◌≡◌, ◌++◌, ◌∷◌, [], ℕ, List, None, true, IfSome};
 ghost use Rattle.rtrb.specs.Ring.{received, SameConsumer};
-ghost use Rattle.live_stations.specs.Handed.{HasTaken, IsPrinterEnd};
+ghost use Rattle.live_stations.specs.Handed.{HasTaken, IsPrintedAt, IsPrinterEnd};
 
 use crate::office::{Office, Place};
 use crate::terminals::Terminals;
@@ -94,6 +94,43 @@ fn drop_lines<R: Wait>(
     unreachable!()
 }
 
+// Prints on a station's screen what comes, once the day has begun. Says whether all of it was printed, and nothing is on a screen that
+// can't be opened, or in a day that has not begun.
+#[tactic(auto, using(crate::proofs::PrinterLaws::shown_there))]
+fn print_begun<T: Terminals, R: Wait>(
+    rt: &R,
+    alloc: Global,
+    office: &Office,
+    place: &Place,
+    terminals: &T,
+    station: u32,
+    answers: &mut Consumer<Bytes>,
+) -> (Option<T::Screen>, bool)
+    requires untaken { received answers.old ≡ [] }
+    ensures ring { SameConsumer answers.old answers.new }
+    ensures printed { IsPrintedAt T.Screen.contents (T.reads terminals.now station) result.0 (received answers.new) result.1 }
+{
+    if !office.wait_for_begin(rt, place) {
+        return (None, true);
+    }
+    let Some(mut screen) = terminals.open_screen(alloc, station) else {
+        place.set_gone();
+        return (None, true);
+    };
+    let is_shown = print_lines(rt, office, place, &mut screen, answers);
+    if !is_shown {
+        place.set_gone();
+    }
+    (Some(screen), is_shown)
+}
+
+// Whether all were printed: all that came to the screen, and none came after these.
+fn are_all_printed(is_printed: bool, was_none: bool) -> bool
+    ensures both { result ≡ true → (is_printed ≡ true) × (was_none ≡ true) }
+{
+    is_printed && was_none
+}
+
 /// Prints what a station is answered once the day has begun, line by line. Where a line can't be printed the day takes no more lines of the
 /// station, and its answers stand in its answer file alone.
 pub(crate) fn print_answers<T: Terminals, R: Wait>(
@@ -106,25 +143,21 @@ pub(crate) fn print_answers<T: Terminals, R: Wait>(
     mut answers: Consumer<Bytes>,
 ) -> Printer<T::Screen>
     requires untaken { received answers ≡ [] }
-    ensures ended { IsPrinterEnd T.Screen.contents answers result }
+    ensures ended { IsPrinterEnd T.Screen.contents (T.reads terminals.now station) answers result }
 {
-    let mut screen = None;
-    let mut is_shown = true;
-    if office.wait_for_begin(rt, place) {
-        screen = terminals.open_screen(alloc, station);
-        is_shown = match &mut screen {
-            Some(screen) => print_lines(rt, office, place, screen, &mut answers),
-            None => false,
-        };
-    }
-    if !is_shown {
-        place.set_gone();
-    }
+    let (screen, is_printed) = print_begun(
+        rt,
+        alloc,
+        office,
+        place,
+        terminals,
+        station,
+        &mut answers,
+    );
     let was_none = drop_lines(rt, office, place, &mut answers);
-    let is_whole = is_shown || screen.is_none();
     Printer {
         screen,
         answers,
-        all_printed: is_whole && was_none,
+        all_printed: are_all_printed(is_printed, was_none),
     }
 }

@@ -1,14 +1,21 @@
 //! What is said of a station whose lines or answers were not all had.
 
-ghost use Rattle.std.specs.Prelude.{◌≡◌, option_map, OnOk};
+ghost use Rattle.std.specs.Prelude.{◌≡◌, option_map, true, false, IsErr, IsOk, OnOk};
+ghost use Rattle.std.specs.List.{list_all};
+ghost use Rattle.std.specs.Process.{exit_status};
 ghost use Rattle.std.specs.Io.KnownBytes.{Appends};
-ghost use Rattle.live_stations.specs.Tellings.{end_words, said_if_some, said_unless, station_said, station_text, stations_text};
+ghost use Rattle.live_stations.specs.Tellings.{end_words, is_shown_all, said_if_some, said_unless, station_said, station_text, stations_text};
+ghost use Rattle.live_program.specs.Endings.{status};
+ghost use Rattle.live_program.specs.declared.failure.LiveFailure.TheVariants.{Unshown};
 
-use crate::day::StationLeft;
+use crate::day::{StationLeft, StationsDay};
 use crate::typist::LinesEnd;
 use live_day::TypingFault;
+use live_program::LiveFailure;
+use program_frame::Reason;
 use std::io;
 use std::io::Write;
+use std::process::ExitCode;
 
 // What is said of a station whose answers were not all printed.
 const UNSHOWN: &str = "not all its answers were shown";
@@ -65,4 +72,40 @@ pub fn tell_stations<W: Write, K: Drop, S: Drop>(
         tell_station(out, index + 1, left.end, left.all_printed)?;
     }
     Ok(())
+}
+
+// Whether a station was shown all its answers, and would have been shown more.
+fn was_shown_all<K: Drop, S: Drop>(left: &StationLeft<K, S>) -> bool
+    ensures value { result ≡ is_shown_all left.now }
+{
+    match left.end {
+        LinesEnd::Unprinted => false,
+        _ => left.all_printed,
+    }
+}
+
+// Whether each station was.
+fn were_shown_all<K: Drop, S: Drop>(stations: &[StationLeft<K, S>]) -> bool
+    ensures value { result ≡ list_all is_shown_all stations.now }
+{
+    stations.iter().all(|left| was_shown_all(left))
+}
+
+/// Tells what there is to say of each station after a day, and answers the exit status: that of the day; but that of answers which can't be
+/// printed, 4, where the day was closed and the answers of a station can't be shown any more or were not all shown. An error stream that takes
+/// no text changes nothing.
+pub fn tell_day<W: Write, K: Drop, S: Drop, O: Drop, E: Drop>(
+    err: &mut W,
+    day: &StationsDay<K, S, O, E>,
+) -> ExitCode
+    ensures unshown { IsOk day.now.ended → list_all is_shown_all day.now.stations.items ≡ false → exit_status result ≡ status Unshown }
+    ensures shown { list_all is_shown_all day.now.stations.items ≡ true → result ≡ day.now.told.status }
+    ensures failed { IsErr day.now.ended → result ≡ day.now.told.status }
+{
+    let _ = tell_stations(err, day.stations.as_slice());
+    if day.ended.is_ok() && !were_shown_all(day.stations.as_slice()) {
+        ExitCode::from(LiveFailure::Unshown.exit_status())
+    } else {
+        day.told.status
+    }
 }

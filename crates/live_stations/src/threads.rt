@@ -4,7 +4,7 @@ ghost use Rattle.std.specs.Prelude.{◌≡◌, ◌+◌, ◌≤◌, [], length, m
 ghost use Rattle.rtrb.specs.Ring.{received, sent};
 ghost use Rattle.live_stations.specs.Handed.{IsPrinterEnd};
 ghost use Rattle.live_stations.specs.Typists.{IsTypistEnd};
-ghost use Rattle.live_stations.specs.Stations.{answers_in, lines_in, AreOf, AreUnused, HavePrinted, HaveTyped, IsUnused};
+ghost use Rattle.live_stations.specs.Stations.{answer_end, line_end, printing_of, typing_of, AreOf, AreUnused, HavePrinted, HaveTyped, IsUnused};
 ghost use Rattle.live_stations.specs.Tellings.{IsThreadFault};
 ghost use Rattle.live_stations.specs.declared.threads.ThreadFault.TheVariants.{NoThread};
 
@@ -33,35 +33,39 @@ pub(crate) struct StationEnds {
     pub(crate) answers: Consumer<Bytes>,
 }
 
-/// That what is typed is sent by this end of a ring.
+/// That what a station types at these terminals is sent by this end of a ring.
 #[derive(Drop)]
-pub(crate) struct Types {
+pub(crate) struct Types<T> {
+    pub(crate) terminals: Snapshot<T>,
+    pub(crate) station: u32,
     pub(crate) lines: Snapshot<Producer<Heard>>,
 }
 
-impl<K: Keyboard + Drop> Promise<Typist<K>> for Types {
+impl<T: Terminals> Promise<Typist<T::Keyboard>> for Types<T> {
     ghost use Rattle.live_stations.specs.Typists.{IsTypistEnd};
 
-    ghost kept_by = { λ p end. IsTypistEnd K.typed p.lines.value end };
+    ghost kept_by = { λ p end. IsTypistEnd T.Keyboard.typed (T.types p.terminals.value p.station) p.lines.value end };
 }
 
-/// That what comes by this end of a ring is printed.
+/// That what comes by this end of a ring is printed for a station at these terminals.
 #[derive(Drop)]
-pub(crate) struct Prints {
+pub(crate) struct Prints<T> {
+    pub(crate) terminals: Snapshot<T>,
+    pub(crate) station: u32,
     pub(crate) answers: Snapshot<Consumer<Bytes>>,
 }
 
-impl<W: Write + Drop> Promise<Printer<W>> for Prints {
+impl<T: Terminals> Promise<Printer<T::Screen>> for Prints<T> {
     ghost use Rattle.live_stations.specs.Handed.{IsPrinterEnd};
 
-    ghost kept_by = { λ p end. IsPrinterEnd W.contents p.answers.value end };
+    ghost kept_by = { λ p end. IsPrinterEnd T.Screen.contents (T.reads p.terminals.value p.station) p.answers.value end };
 }
 
 /// The thread that reads what a station types.
-pub(crate) type TypistThread<K> = PromisedHandle<Typist<K>, Types>;
+pub(crate) type TypistThread<T> = PromisedHandle<Typist<<T as Terminals>::Keyboard>, Types<T>>;
 
 /// The thread that prints what a station is answered.
-pub(crate) type PrinterThread<W> = PromisedHandle<Printer<W>, Prints>;
+pub(crate) type PrinterThread<T> = PromisedHandle<Printer<<T as Terminals>::Screen>, Prints<T>>;
 
 /// Why a station has no threads.
 #[derive(Clone, Copy, Debug, PartialEq, Eq)]
@@ -108,19 +112,21 @@ fn start_typist<'s, E, T: Terminals + Sync, R: Threads + Wait + Sync>(
     terminals: &'s T,
     station: u32,
     lines: Producer<Heard>,
-) -> Result<TypistThread<T::Keyboard>, ThreadFault>
+) -> Result<TypistThread<T>, ThreadFault>
     requires unsent { sent lines ≡ [] }
-    ensures lines { IfOk result (λ thread. thread.promise.lines.value ≡ lines) }
+    ensures of { IfOk result (λ thread. typing_of thread.promise ≡ (terminals.now, station, lines)) }
     ensures fault { IfErr result (λ fault. fault ≡ NoThread station) }
 {
     let promise = Types {
+        terminals: Snapshot::of(terminals),
+        station,
         lines: Snapshot::of(&lines),
     };
     match scope.spawn_with(
         promise,
         move || -> Typist<T::Keyboard>
             requires unsent { sent lines ≡ [] }
-            ensures ended { IsTypistEnd T.Keyboard.typed lines result }
+            ensures ended { IsTypistEnd T.Keyboard.typed (T.types terminals.entry.now station) lines result }
         { type_lines(rt, alloc, office, place, terminals, station, lines) },
     ) {
         Ok(thread) => Ok(thread),
@@ -138,19 +144,21 @@ fn start_printer<'s, E, T: Terminals + Sync, R: Threads + Wait + Sync>(
     terminals: &'s T,
     station: u32,
     answers: Consumer<Bytes>,
-) -> Result<PrinterThread<T::Screen>, ThreadFault>
+) -> Result<PrinterThread<T>, ThreadFault>
     requires untaken { received answers ≡ [] }
-    ensures answers { IfOk result (λ thread. thread.promise.answers.value ≡ answers) }
+    ensures of { IfOk result (λ thread. printing_of thread.promise ≡ (terminals.now, station, answers)) }
     ensures fault { IfErr result (λ fault. fault ≡ NoThread station) }
 {
     let promise = Prints {
+        terminals: Snapshot::of(terminals),
+        station,
         answers: Snapshot::of(&answers),
     };
     match scope.spawn_with(
         promise,
         move || -> Printer<T::Screen>
             requires untaken { received answers ≡ [] }
-            ensures ended { IsPrinterEnd T.Screen.contents answers result }
+            ensures ended { IsPrinterEnd T.Screen.contents (T.reads terminals.entry.now station) answers result }
         { print_answers(rt, alloc, office, place, terminals, station, answers) },
     ) {
         Ok(thread) => Ok(thread),
@@ -161,8 +169,8 @@ fn start_printer<'s, E, T: Terminals + Sync, R: Threads + Wait + Sync>(
 /// The threads of all stations, in their order.
 #[derive(Drop)]
 pub(crate) struct StationThreads<T: Terminals> {
-    pub(crate) typists: Vec<TypistThread<T::Keyboard>>,
-    pub(crate) printers: Vec<PrinterThread<T::Screen>>,
+    pub(crate) typists: Vec<TypistThread<T>>,
+    pub(crate) printers: Vec<PrinterThread<T>>,
 }
 
 /// Starts the threads of all stations, which wait until the day begins.
@@ -177,8 +185,10 @@ pub(crate) fn start_threads<'s, E, T: Terminals + Sync, R: Threads + Wait + Sync
     requires unused { AreUnused ends.items }
     requires stations { AreOf (length ends.items) ends.items }
     ensures fault { IfErr result (IsThreadFault (length ends.items)) }
-    ensures typists { IfOk result (λ threads. map (λ h. h.promise.lines.value) threads.typists.items ≡ map lines_in ends.items) }
-    ensures printers { IfOk result (λ threads. map (λ h. h.promise.answers.value) threads.printers.items ≡ map answers_in ends.items) }
+    ensures typists { IfOk result (λ threads. map (λ h. typing_of h.promise) threads.typists.items
+        ≡ map (line_end terminals.now) ends.items) }
+    ensures printers { IfOk result (λ threads. map (λ h. printing_of h.promise) threads.printers.items
+        ≡ map (answer_end terminals.now) ends.items) }
 {
     let mut typists = Vec::new(alloc);
     let mut printers = Vec::new(alloc);
@@ -204,14 +214,15 @@ pub(crate) fn start_threads<'s, E, T: Terminals + Sync, R: Threads + Wait + Sync
 }
 
 /// Waits for the threads that read what the stations type. Their ends have room in a list.
-pub(crate) fn join_typists<K: Keyboard + Send + Drop, R: Threads + Wait>(
+pub(crate) fn join_typists<T: Terminals, R: Threads + Wait>(
     rt: &R,
-    threads: Vec<TypistThread<K>>,
-    mut room: Vec<Typist<K>>,
-) -> Vec<Typist<K>>
+    threads: Vec<TypistThread<T>>,
+    mut room: Vec<Typist<T::Keyboard>>,
+) -> Vec<Typist<T::Keyboard>>
     requires none { room.items ≡ [] }
     requires room { vec_len threads ≤ vec_capacity room }
-    ensures typed { HaveTyped K.typed (map (λ h. h.promise.lines.value) threads.items) result.items }
+    ensures typed { HaveTyped T.Keyboard.typed T.types (map (λ h. typing_of h.promise) threads.items)
+        result.items }
 {
     for thread in threads {
         room.push_reserved(thread.join(rt));
@@ -220,14 +231,15 @@ pub(crate) fn join_typists<K: Keyboard + Send + Drop, R: Threads + Wait>(
 }
 
 /// Waits for the threads that print what the stations are answered. Their ends have room in a list.
-pub(crate) fn join_printers<W: Write + Send + Drop, R: Threads + Wait>(
+pub(crate) fn join_printers<T: Terminals, R: Threads + Wait>(
     rt: &R,
-    threads: Vec<PrinterThread<W>>,
-    mut room: Vec<Printer<W>>,
-) -> Vec<Printer<W>>
+    threads: Vec<PrinterThread<T>>,
+    mut room: Vec<Printer<T::Screen>>,
+) -> Vec<Printer<T::Screen>>
     requires none { room.items ≡ [] }
     requires room { vec_len threads ≤ vec_capacity room }
-    ensures printed { HavePrinted W.contents (map (λ h. h.promise.answers.value) threads.items) result.items }
+    ensures printed { HavePrinted T.Screen.contents T.reads (map (λ h. printing_of h.promise) threads.items)
+        result.items }
 {
     for thread in threads {
         room.push_reserved(thread.join(rt));

@@ -8,7 +8,7 @@ ghost use Rattle.live_day.specs.Wishes.{is_station_word as begins_with_station};
 ghost use Rattle.live_day.specs.declared.wish.Wish.TheVariants.{Quit};
 ghost use Rattle.live_stations.specs.Hearings.{over_mark};
 ghost use Rattle.live_stations.specs.Items.{as_own as own_line};
-ghost use Rattle.live_stations.specs.Typists.{HasSent, IsTypistEnd};
+ghost use Rattle.live_stations.specs.Typists.{typed_at, HasSent, IsTypistEnd};
 ghost use Rattle.live_day.specs.declared.wish.TheConstants.{STATION_WORD_BYTES};
 
 use crate::heard::Heard;
@@ -55,6 +55,7 @@ fn is_quit(typed: &Typed) -> bool
     match typed {
         Typed::Text(line) => wish_of(line.as_slice()) == Wish::Quit,
         Typed::TooLong => false,
+        Typed::Cut => false,
     }
 }
 
@@ -77,6 +78,7 @@ fn as_own(typed: Typed) -> Typed
 }
 
 // Sends the lines that a station types, one after another, until no more come.
+#[tactic(auto, using(crate::proofs::TypistLaws::none_gone, crate::proofs::TypistLaws::one_gone, crate::proofs::TypistLaws::gone_last, crate::proofs::TypistLaws::gone_unread, crate::proofs::TypistLaws::gone_to_end))]
 fn send_lines<K: Keyboard, R: Wait>(
     rt: &R,
     alloc: Global,
@@ -87,7 +89,7 @@ fn send_lines<K: Keyboard, R: Wait>(
     lines: &mut Producer<Heard>,
 ) -> LinesEnd
     ensures ring { SameProducer lines.old lines.new }
-    ensures sent { HasSent (K.typed keyboard.old) (K.typed keyboard.new) (sent lines.old) (sent lines.new) result }
+    ensures sent { HasSent (K.text_left keyboard.old) (K.typed keyboard.old) (K.typed keyboard.new) (sent lines.old) (sent lines.new) result }
 {
     for _ in rt.forever() {
         let typed = match keyboard.next_line(alloc, station) {
@@ -119,7 +121,33 @@ fn send_over<R: Wait>(rt: &R, office: &Office, place: &Place, lines: &mut Produc
     is_sent
 }
 
+// Sends what a station types once the day has begun, and says why no more lines come.
+#[tactic(auto, using(crate::proofs::TypistLaws::none_sent, crate::proofs::TypistLaws::sent_there))]
+fn type_begun<T: Terminals, R: Wait>(
+    rt: &R,
+    alloc: Global,
+    office: &Office,
+    place: &Place,
+    terminals: &T,
+    station: u32,
+    lines: &mut Producer<Heard>,
+) -> (Option<T::Keyboard>, LinesEnd)
+    requires unsent { sent lines.old ≡ [] }
+    ensures ring { SameProducer lines.old lines.new }
+    ensures sent { HasSent (T.types terminals.now station) [] (typed_at T.Keyboard.typed result.0) [] (sent lines.new) result.1 }
+{
+    if !office.wait_for_begin(rt, place) || office.is_over() {
+        return (None, LinesEnd::DayOver);
+    }
+    let Some(mut keyboard) = terminals.open_keyboard(alloc, station) else {
+        return (None, LinesEnd::Unopened);
+    };
+    let end = send_lines(rt, alloc, office, place, station, &mut keyboard, lines);
+    (Some(keyboard), end)
+}
+
 /// Reads what a station types once the day has begun, and sends it line by line.
+#[tactic(auto, using(crate::proofs::TypistLaws::sent_by))]
 pub(crate) fn type_lines<T: Terminals, R: Wait>(
     rt: &R,
     alloc: Global,
@@ -130,19 +158,9 @@ pub(crate) fn type_lines<T: Terminals, R: Wait>(
     mut lines: Producer<Heard>,
 ) -> Typist<T::Keyboard>
     requires unsent { sent lines ≡ [] }
-    ensures ended { IsTypistEnd T.Keyboard.typed lines result }
+    ensures ended { IsTypistEnd T.Keyboard.typed (T.types terminals.now station) lines result }
 {
-    let mut keyboard = None;
-    let mut end = LinesEnd::DayOver;
-    if office.wait_for_begin(rt, place) && !office.is_over() {
-        keyboard = terminals.open_keyboard(alloc, station);
-        end = match &mut keyboard {
-            Some(keyboard) => {
-                send_lines(rt, alloc, office, place, station, keyboard, &mut lines)
-            }
-            None => LinesEnd::Unopened,
-        };
-    }
+    let (keyboard, end) = type_begun(rt, alloc, office, place, terminals, station, &mut lines);
     let is_told = send_over(rt, office, place, &mut lines);
     Typist {
         keyboard,

@@ -1,10 +1,11 @@
 //! Live stations, as the words of a command line ask for them.
 
-ghost use Rattle.std.specs.Prelude.{◌≡◌, ◌++◌, ◌∷◌, [], false, List, None, IfOk, IfSome, OnOk, map};
+ghost use Rattle.std.specs.Prelude.{◌≡◌, ◌++◌, ◌∷◌, [], false, List, None, IfErr, IfOk, IfSome, OnOk, map};
 ghost use Rattle.clap.specs.Words.{Text};
 ghost use Rattle.live_program.specs.Asked.{IsAskedIn, IsWhyNotRead};
-ghost use Rattle.live_stations.specs.LiveSetups.{IsLiveAsked, IsSetupAsked};
-ghost use Rattle.live_stations.specs.Setups.{scripts_in, HasNoLive, IsUntaken, NamesLive};
+ghost use Rattle.live_stations.specs.LiveSetups.{IsLiveAsked, IsLiveUnread, IsSetupAsked};
+ghost use Rattle.live_stations.specs.Setups.{scripts_in, HasNoLive, IsLoaded, IsUntaken, NamesLive};
+ghost use Rattle.office_run.specs.Loading.{IsFileFault};
 
 use crate::with_setup::WithSetup;
 use byte_io::Bytes;
@@ -12,7 +13,7 @@ use catalogue_core::MAX_STATIONS;
 use clap::error::ErrorKind;
 use folders::{LoadFault, Source};
 use live_program::{LiveFailure, Options, read_options};
-use office_run::ServeFault;
+use office_run::{FileFault, ServeFault};
 use program_frame::{Ending, Failure};
 use station_lines::{SetupEntry, SetupFault, parse_setup};
 use std::alloc::{AllocError, Global};
@@ -28,9 +29,14 @@ pub enum LiveSetup<S: Source + Drop> {
         /// The path of each station, in their order.
         paths: Vec<Bytes>,
     },
-    /// No station is live.
-    NotLive {
-        /// The source, as it is left.
+    /// They are to be, but it names none, or more than there may be, or has a bad line.
+    NoneLive {
+        /// The source, from which the setup isn't read again.
+        source: WithSetup<S>,
+    },
+    /// The words don't ask for live stations, or can't be read.
+    NotAsked {
+        /// The source, of which nothing was read.
         source: S,
     },
 }
@@ -99,45 +105,63 @@ fn live_paths(alloc: Global, text: &[u8]) -> Result<Option<Vec<Bytes>>, AllocErr
     Ok(Some(paths))
 }
 
+// The text of the setup of this path.
+fn load_setup<S: Source>(alloc: Global, source: &mut S, path: &Bytes) -> Result<Bytes, ServeFault>
+    ensures loaded { IfOk result (IsLoaded (S.files source.old) path.now) }
+    ensures unread { IfErr result (IsFileFault (S.files source.old) path.now) }
+    ensures loads { OnOk result (S.failures source.new ≡ S.failures source.old) }
+    ensures kept { S.files source.new ≡ S.files source.old }
+{
+    match source.load(alloc, path.as_slice()) {
+        Ok(text) => Ok(text),
+        Err(LoadFault::NoMemory) => Err(ServeFault::NoMemory),
+        Err(LoadFault::CannotRead) => {
+            Err(ServeFault::File(path.copy(alloc)?, FileFault::CannotRead))
+        }
+        Err(LoadFault::Unrecovered) => Err(ServeFault::File(
+            path.copy(alloc)?,
+            FileFault::Unrecovered,
+        )),
+    }
+}
+
 // The live stations of the setup of this path.
 fn load_live<S: Source + Drop>(
     alloc: Global,
     source: S,
     path: &str,
-) -> Result<LiveSetup<S>, AllocError>
+) -> Result<LiveSetup<S>, ServeFault>
     ensures found { IfOk result (IsSetupAsked S.files S.failures source path.now) }
+    ensures unread { IfErr result (IsFileFault (S.files source) path.now) }
 {
     let mut source = source;
     let path = Bytes::from_slice(alloc, path.as_bytes())?;
-    let setup = match source.load(alloc, path.as_slice()) {
-        Ok(setup) => setup,
-        Err(LoadFault::NoMemory) => return Err(AllocError),
-        Err(_) => return Ok(LiveSetup::NotLive { source }),
-    };
-    match live_paths(alloc, setup.as_slice())? {
-        Some(paths) => Ok(LiveSetup::Live {
-            source: WithSetup::new(source, path, setup),
-            paths,
-        }),
-        None => Ok(LiveSetup::NotLive { source }),
+    let setup = load_setup(alloc, &mut source, &path)?;
+    let live = live_paths(alloc, setup.as_slice())?;
+    let source = WithSetup::new(source, path, setup);
+    match live {
+        Some(paths) => Ok(LiveSetup::Live { source, paths }),
+        None => Ok(LiveSetup::NoneLive { source }),
     }
 }
 
-/// The live stations that the words ask for, as the setup names them. None are live where the words don't ask for it, where they or the
-/// setup can't be read, and where the setup names no station, or more than [`MAX_STATIONS`]: what is wrong with these is told where the
-/// day is lived. An error where memory is refused.
+/// The live stations that the words ask for, as the setup names them. None are live where the words don't ask for it or can't be read, and
+/// where the setup was read and names no station, or more than [`MAX_STATIONS`], or has a bad line: what is wrong with these is told where the
+/// day is lived, on the setup that was read. An error where the words ask for live stations and the setup can't be read: `File` with its path.
+/// And `NoMemory` where memory is refused.
 pub fn live_setup<S: Source + Drop, T: AsStr>(
     alloc: Global,
     source: S,
     words: &[T],
-) -> Result<LiveSetup<S>, AllocError>
+) -> Result<LiveSetup<S>, ServeFault>
     ensures found { IfOk result (IsLiveAsked S.files S.failures source (map T.text words.entry.now)) }
+    ensures unread { IfErr result (IsLiveUnread (S.files source) (map T.text words.entry.now)) }
 {
     let Some(options) = options_in(alloc, words)? else {
-        return Ok(LiveSetup::NotLive { source });
+        return Ok(LiveSetup::NotAsked { source });
     };
     if !options.live {
-        return Ok(LiveSetup::NotLive { source });
+        return Ok(LiveSetup::NotAsked { source });
     }
     load_live(alloc, source, options.setup)
 }

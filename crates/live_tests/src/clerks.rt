@@ -146,6 +146,10 @@ fn lines_in(bytes: &[u8]) -> u64 {
 }
 
 impl<'a, R: Wait> Write for Sheet<'a, R> {
+    ghost use Rattle.std.specs.Prelude.{Some};
+
+    ghost contents = { λ sheet. Some sheet.text.items };
+
     fn write(&mut self, bytes: &[u8]) -> io::Result<usize> {
         if let Some((count, answers)) = self.waits.take() {
             count.wait_for(self.rt, answers);
@@ -221,6 +225,13 @@ impl<'a, R: Wait> Clerks<'a, R> {
 }
 
 impl<'a, R: Wait + Sync> Terminals for Clerks<'a, R> {
+    ghost use Rattle.std.specs.Prelude.{[], None, Some};
+
+    // What a clerk types hangs on what the others are shown.
+    ghost types = { λ clerks station. None };
+
+    ghost reads = { λ clerks station. Some [] };
+
     type Keyboard = TypedLines<BufReader<Tape<'a, R>>, Vec<u8>>;
 
     type Screen = Sheet<'a, R>;

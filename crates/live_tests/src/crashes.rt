@@ -5,10 +5,11 @@ ghost use Rattle.files_in_place.specs.Folder.{Name, is_reserved};
 ghost use Rattle.memory_disk.specs.Outcomes.{IsWhole};
 
 use crate::one_keyboard::live_with;
-use crate::samples::{EMPTY_LOG, empty_folder, has_file, left_by};
+use crate::samples::{empty_folder, has_file, left_by};
 use files_in_place::{Disk, recover};
 use live_program::{LOG_NAME, Lived};
 use memory_disk::MemoryDisk;
+use open_day::is_day_open;
 use program_frame::InPlace;
 use std::alloc::{AllocError, Global};
 use std::io::BufReader;
@@ -22,7 +23,7 @@ const ANSWERS: &[u8] = b"OK\nOK\nOK\nREFUSED 5 NotLocked\n";
 const ANSWERS_OF_ONE: &[u8] = b"OK\nOK\nREFUSED 5 NotLocked\n";
 
 // How many calls of the disk a start makes on an empty folder, and a group of the log; and more than such a day makes.
-const CALLS_OF_START: u64 = 24;
+const CALLS_OF_START: u64 = 22;
 
 const CALLS_OF_GROUP: u64 = 4;
 
@@ -63,12 +64,12 @@ fn live(alloc: Global, disk: MemoryDisk, typed: &[u8], bytes: usize) -> Result<C
     })
 }
 
-// Whether a folder that is recovered has the new files of a day, in which station 1 was answered this, and a log without entries.
+// Whether a folder that is recovered has the new files of a day, in which station 1 was answered this, and the log of a closed one.
 fn has_new_files(alloc: Global, disk: &mut MemoryDisk, answers: &[u8]) -> Result<bool, Fail> {
     Ok(
         disk.has(b"T.DBF")?
             && has_file(alloc, disk, b"STATION1.TXT", answers)?
-            && has_file(alloc, disk, LOG_NAME, EMPTY_LOG)?,
+            && !is_day_open(alloc, disk)?,
     )
 }
 
@@ -94,9 +95,9 @@ fn count_in(alloc: Global, disk: MemoryDisk) -> Result<Option<u64>, Fail>
     let shown: Vec<u8> = Vec::new(alloc);
     let InPlace { ended, disk } = live_with(alloc, disk, typed, shown)?;
     let mut disk = disk;
-    let is_empty = has_file(alloc, &mut disk, LOG_NAME, EMPTY_LOG)?;
+    let is_open = is_day_open(alloc, &mut disk)?;
     match ended {
-        Ok(Lived { count }) if is_empty => Ok(Some(count)),
+        Ok(Lived { count }) if !is_open => Ok(Some(count)),
         _ => Ok(None),
     }
 }
@@ -169,7 +170,7 @@ fn count_ways_after(alloc: Global, calls: u64) -> Result<u64, Fail> {
 }
 
 // In how many ways of a crash a group may count after so many of its calls, at least and at most: until it is on the disk in none, while
-// its gate is opened in those where the write is done, or a torn one leaves an open gate, and then in all.
+// its gate is opened in those where the write is done, or a torn one leaves any gate but a shut one, and then in all.
 const COUNTS: [(u64, u64, u64); 5] = [
     (0, 0, 0),
     (1, 0, 0),
@@ -188,7 +189,8 @@ fn a_group_counts_whole_or_not_at_all(rt: HostRuntime) -> Result<(), Fail> {
 }
 
 // The log of two entries, and of a part of a group.
-const TORN: &[u8] = b"+1 5 2 USE T OK\n+1 4 2 GO 2 OK\n-1 6 2 DE";
+const TORN: &[u8] =
+    b"+8bec0ec40ff649fe 1 5 2 USE T OK\n+8c8236226da7c9ac 1 4 2 GO 2 OK\n-6d99f71356e8ec2c 1 6 2 DE";
 
 // A folder with that log of which only so many calls are done.
 fn torn_folder(alloc: Global, calls: u64) -> Result<MemoryDisk, AllocError>

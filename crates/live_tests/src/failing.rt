@@ -4,6 +4,7 @@ use crate::clerks::{Clerk, Then, Turn};
 use crate::living::{Left, LeftDay, live};
 use live_stations::LinesEnd;
 use std::fs::File;
+use std::process::ExitCode;
 use std::rt::{Files, Runtime};
 use std::sync::Wait;
 use std::test::Fail;
@@ -80,7 +81,11 @@ fn is_cut_off(left: Option<&Left>, room: Option<usize>, answers: u64) -> bool {
 // Whether a day has the commands of the other clerk, and those of the first up to where a screen of this room takes no more.
 fn is_unprinted(day: &LeftDay, room: Option<usize>) -> bool {
     match day.count().unwrap_or(0).checked_sub(3) {
-        Some(answers) => is_other_whole(day) && is_cut_off(day.station(1), room, answers),
+        Some(answers) => {
+            day.status == ExitCode::from(4u8)
+                && is_other_whole(day)
+                && is_cut_off(day.station(1), room, answers)
+        }
         None => false,
     }
 }

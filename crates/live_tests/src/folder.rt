@@ -77,6 +77,9 @@ fn goes_on<R: Runtime + Files<File = File> + AllocGlobal + Threads>(rt: &R) -> R
     )
 }
 
+// The log of a day's two commands. The sums are those of `sha256sum`.
+const PUT: &[u8] = b"+8bec0ec40ff649fe 1 5 2 USE T OK\n+8c8236226da7c9ac 1 4 2 GO 2 OK\n-";
+
 // Whether the folder's log is this one.
 fn has_log<R: Runtime + Files<File = File> + AllocGlobal>(
     rt: &R,
@@ -89,8 +92,8 @@ fn has_log<R: Runtime + Files<File = File> + AllocGlobal>(
 fn a_day_goes_on_in_a_folder_of_the_system(rt: HostRuntime) -> Result<(), Fail> {
     make_folder(&rt, "lived")?;
     assert!(rt; is_unshown(&rt)?);
-    assert!(rt; has_log(&rt, b"+1 5 2 USE T OK\n+1 4 2 GO 2 OK\n-")?);
-    assert!(rt; goes_on(&rt)? && has_log(&rt, b"-")?);
+    assert!(rt; has_log(&rt, PUT)?);
+    assert!(rt; goes_on(&rt)? && has_log(&rt, b"-3 commands\n")?);
     assert!(rt; fs::exists(&rt, "lived/T.DBF")?);
     fs::remove_dir_all(&rt, "lived")?;
     Ok(())

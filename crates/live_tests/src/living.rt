@@ -4,7 +4,7 @@ use crate::clerks::{Clerk, Clerks, Sheet, counts_of};
 use crate::samples::{SETUP, is_text, make_folder, read_file, source, words_of};
 use folders::Source;
 use live_program::{HostPlaces, LiveFailure, Lived, Places};
-use live_stations::{Asked, LinesEnd, StationLeft, StationsDay, live_stations};
+use live_stations::{Asked, LinesEnd, StationLeft, StationsDay, live_stations, tell_day};
 use program_frame::{Ending, Failure};
 use std::fs;
 use std::fs::File;
@@ -130,10 +130,11 @@ fn left_day<'a, R: Runtime + Files<File = File> + AllocGlobal + Wait, K: Drop>(
     mut day: StationsDay<K, Sheet<'a, R>, Vec<u8>, Vec<u8>>,
     opens: u64,
 ) -> Result<LeftDay, Fail> {
+    let mut said: Vec<u8> = Vec::new(rt.alloc());
+    let status = tell_day(&mut said, &day);
     let stations = left_in(rt, folder, &mut day.stations)?;
     let StationsDay {
         ended,
-        told,
         out,
         err,
         all_heard,
@@ -141,7 +142,7 @@ fn left_day<'a, R: Runtime + Files<File = File> + AllocGlobal + Wait, K: Drop>(
     } = day;
     Ok(LeftDay {
         ended,
-        status: told.status,
+        status,
         out,
         err,
         all_heard,

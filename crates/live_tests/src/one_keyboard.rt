@@ -6,7 +6,7 @@ ghost use Rattle.memory_disk.specs.Outcomes.{IsWhole};
 
 use crate::samples::{SETUP, source};
 use dbf_fields::day_of;
-use live_day::Keyboard;
+use live_day::{Keyboard, Typed};
 use live_program::{LiveFailure, Lived, Options, PrintedAnswers, TypedLines, live_in_place};
 use memory_disk::MemoryDisk;
 use program_frame::InPlace;
@@ -66,6 +66,37 @@ fn has_second(alloc: Global, typed: &[u8], prompt: Option<Vec<u8>>) -> bool {
 // Whether a further line is said to be there or not without a prompt, and with one not.
 fn has_second_alone(alloc: Global, typed: &[u8], is_there: bool) -> bool {
     has_second(alloc, typed, None) == is_there && !has_second(alloc, typed, Some(Vec::new(alloc)))
+}
+
+// What is read of a text that is typed, after its first line.
+fn second_of(alloc: Global, mut keyboard: TypedLines<&[u8], Vec<u8>>) -> Option<Typed> {
+    let _ = keyboard.next_line(alloc, 1);
+    keyboard.next_line(alloc, 1).ok()?
+}
+
+// Whether a second line without LF was cut at a pipe, and is one at a terminal.
+fn is_cut_at_a_pipe_alone(alloc: Global, typed: &[u8], line: &[u8]) -> bool {
+    let piped = second_of(alloc, TypedLines::new(typed, None));
+    let at_terminal = second_of(alloc, TypedLines::at_terminal(typed, None));
+    let is_line = match at_terminal {
+        Some(Typed::Text(found)) => found.as_slice() == line,
+        _ => false,
+    };
+    matches!(piped, Some(Typed::Cut)) && is_line
+}
+
+#[test]
+fn a_last_line_without_its_end_was_cut_but_at_a_terminal(rt: HostRuntime) -> Result<(), Fail> {
+    let rows: [(&[u8], &[u8]); 4] = [
+        (b"USE T\nGO 11", b"GO 11"),
+        (b"USE T\nGO 1", b"GO 1"),
+        (b"USE T\r\nG", b"G"),
+        (b"\nQUIT", b"QUIT"),
+    ];
+    for (typed, line) in rows {
+        assert!(rt; is_cut_at_a_pipe_alone(rt.alloc(), typed, line));
+    }
+    Ok(())
 }
 
 #[test]

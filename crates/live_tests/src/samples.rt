@@ -17,9 +17,6 @@ use std::test::Fail;
 /// A setup: a table of two records and two stations.
 pub(crate) const SETUP: &[u8] = b"TABLE T T.DBF\nSTATION one\nSTATION two\n";
 
-/// A log without entries.
-pub(crate) const EMPTY_LOG: &[u8] = b"-";
-
 // A file.
 fn named(alloc: Global, name: &[u8], bytes: &[u8]) -> Result<NamedFile, AllocError> {
     Ok(NamedFile {

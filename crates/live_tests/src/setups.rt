@@ -7,6 +7,7 @@ use byte_io::Bytes;
 use folders::{MemorySource, Source};
 use live_program::HostPlaces;
 use live_stations::{LinesEnd, LiveSetup, WithSetup, live_setup};
+use office_run::{FileFault, ServeFault};
 use std::alloc::Global;
 use std::fs;
 use std::fs::File;
@@ -50,15 +51,23 @@ fn are_paths(found: &[Bytes], paths: &[&str]) -> bool {
 fn are_three_live(found: &LiveSetup<MemorySource>) -> bool {
     match found {
         LiveSetup::Live { paths, .. } => are_paths(paths.as_slice(), &["b/b.fifo", "a", "a"]),
-        LiveSetup::NotLive { .. } => false,
+        _ => false,
+    }
+}
+
+// What these words ask for, on this setup.
+fn setup_of(alloc: Global, setup: &[u8], words: &[&str]) -> Result<LiveSetup<MemorySource>, Fail> {
+    match live_setup(alloc, source(alloc, setup, u64::MAX)?, words) {
+        Ok(found) => Ok(found),
+        Err(_) => Err("the setup is not read".into()),
     }
 }
 
 // Whether the three stations are live where the words ask for it, and no station is where they don't.
 fn are_live_if_asked(alloc: Global) -> Result<bool, Fail> {
-    let live = live_setup(alloc, source(alloc, THREE, u64::MAX)?, LIVE)?;
-    let other = live_setup(alloc, source(alloc, THREE, u64::MAX)?, ONE_KEYBOARD)?;
-    Ok(are_three_live(&live) && matches!(other, LiveSetup::NotLive { .. }))
+    let live = setup_of(alloc, THREE, LIVE)?;
+    let other = setup_of(alloc, THREE, ONE_KEYBOARD)?;
+    Ok(are_three_live(&live) && matches!(other, LiveSetup::NotAsked { .. }))
 }
 
 #[test]
@@ -69,11 +78,44 @@ fn the_stations_of_a_setup_are_live_where_the_words_ask_for_it(
     Ok(())
 }
 
+// Setups that were read and have no stations that can be live.
+const NONE_LIVE: [&[u8]; 3] = [b"", b"TABLE T T.DBF\n", b"STATION one\nSTATON two\n"];
+
+// Whether no stations are live, though the words ask for it, where a setup that was read has none.
+fn are_none_live(alloc: Global) -> Result<bool, Fail> {
+    let mut are_none = true;
+    for setup in NONE_LIVE {
+        let found = setup_of(alloc, setup, LIVE)?;
+        are_none = are_none && matches!(found, LiveSetup::NoneLive { .. });
+    }
+    Ok(are_none)
+}
+
+// Whether a setup that can't be read is told with its path where the words ask for live stations, and not looked at where they don't.
+fn is_unread_if_asked(alloc: Global) -> Result<bool, Fail> {
+    let live = live_setup(alloc, source(alloc, SETUP, 0)?, LIVE);
+    let other = live_setup(alloc, source(alloc, SETUP, 0)?, ONE_KEYBOARD);
+    let is_told = match &live {
+        Err(ServeFault::File(path, FileFault::CannotRead)) => {
+            path.as_slice() == b"A.SET".as_slice()
+        }
+        _ => false,
+    };
+    Ok(is_told && matches!(other, Ok(LiveSetup::NotAsked { .. })))
+}
+
+#[test]
+fn only_a_setup_that_was_read_says_that_no_station_is_live(rt: HostRuntime) -> Result<(), Fail> {
+    assert!(rt; are_none_live(rt.alloc())?);
+    assert!(rt; is_unread_if_asked(rt.alloc())?);
+    Ok(())
+}
+
 // The source of live stations of the setup, of which so many loads are done.
 fn live_after(alloc: Global, loads: u64) -> Result<WithSetup<MemorySource>, Fail> {
-    match live_setup(alloc, source(alloc, SETUP, loads)?, LIVE)? {
-        LiveSetup::Live { source, .. } => Ok(source),
-        LiveSetup::NotLive { .. } => Err("no live stations".into()),
+    match live_setup(alloc, source(alloc, SETUP, loads)?, LIVE) {
+        Ok(LiveSetup::Live { source, .. }) => Ok(source),
+        _ => Err("no live stations".into()),
     }
 }
 

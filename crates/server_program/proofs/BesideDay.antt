@@ -297,6 +297,10 @@ lock_not_open fault failure of is told = elim of.0 as (λ (w : LockFault). fault
   | locked.Failed ↦ λ e. let clash : place_failure NoMemory (unlocked_folder locked.Failed) ≡ OfFolder DayOpen = sym (is ∙ ap (place_failure NoMemory) e) ∙ told in absurd cc
 ] of.1
 
+-- a call answered this fault where the fault that is told of it is this one
+pub told_so : {S T E : Type 0} (result : Result S E) (why fault : E) → result ≡ Err why → IsErrOf {T = T} (Err why) fault → IsErrOf result fault
+told_so result why fault is told = cc (is, told)
+
 pub told_not_open : (result : Result Served (Failure ServeFault)) (fault : PlaceFault) → IsOfLock fault → IsErrAnd result (λ failure. failure ≡ place_failure NoMemory fault) → IsErrOf result (OfFolder DayOpen) → ⊥
 told_not_open (Ok report) fault of is told = is
 told_not_open (Err failure) fault of is told = lock_not_open fault failure of is cc

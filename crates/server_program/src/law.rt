@@ -1,6 +1,6 @@
 //! What holds of runs: of the answers in their folder, and however often they are started.
 
-ghost use Rattle.std.specs.Prelude.{◌≡◌, ℕ, List, Option, length, true};
+ghost use Rattle.std.specs.Prelude.{◌≡◌, List, Option, true};
 ghost use Rattle.clap.specs.Words.{Text};
 ghost use Rattle.files_in_place.specs.Folder.{Name, Folder};
 ghost use Rattle.folders.specs.declared.named.NamedFile.{NamedFile};
@@ -8,7 +8,7 @@ ghost use Rattle.server_program.specs.declared.options.Options.{Options};
 ghost use Rattle.server_program.specs.declared.served.Served.{Served as ServedValue};
 ghost use Rattle.server_program.specs.PlacedAnswers.{HasAnswersOf, HasJournalOf};
 ghost use Rattle.server_program.specs.Program.{IsServedAsAsked};
-ghost use Rattle.server_program.specs.Starts.{EndsAfterStarts, HasOldOrOneSet, HasWholeSets, StandsFor, WriteNames};
+ghost use Rattle.server_program.specs.Starts.{inputs_of, EndsAfterStarts, HasOldOrOneSet, HasWholeSets, StandsFor, Start, WriteNames};
 
 use files_in_place::Disk;
 use program_frame::System;
@@ -27,12 +27,13 @@ pub fn answers_are_in_place<Y: System>()
         HasJournalOf (Y.Disk.meaning.seen asked.put.end) (asked.put.put promised).put.such }
 {}
 
-/// A law: whatever crashes, is stopped or fails, and however often a run of the same options is started again: once the folder is
-/// recovered it has the old files, or all files of one or more of these runs, a whole set after a whole set, and never a part of
-/// one. Where all of them write files of the same names, it has the old files or those of one run.
+/// A law: whatever crashes, is stopped or fails, and however often a run of the same options is started again, each on files of its
+/// own: once the folder is recovered, each of the runs in turn has left it as it was or has put all its files into it, never a part
+/// of them. Where all of them write files of the same names, the folder has the old files or those of one run.
 pub fn whole_sets_stay<D: Disk>()
-    ensures whole { D.meaning.keeps_promises → (options : Options) (old last : Folder) (first : D) (others : List D) →
-        StandsFor D.meaning old first → EndsAfterStarts D.meaning options others first last → HasWholeSets options (length others) old last }
-    ensures one { D.meaning.keeps_promises → (options : Options) (names : List Name) (old last : Folder) (first : D) (others : List D) →
-        WriteNames options names → StandsFor D.meaning old first → EndsAfterStarts D.meaning options others first last → HasOldOrOneSet options old last }
+    ensures whole { D.meaning.keeps_promises → (options : Options) (old last : Folder) (first : D) (starts : List (Start D)) →
+        StandsFor D.meaning old first → EndsAfterStarts D.meaning options starts first last → HasWholeSets options (inputs_of starts) old last }
+    ensures one { D.meaning.keeps_promises → (options : Options) (names : List Name) (old last : Folder) (first : D) (starts : List (Start D)) →
+        WriteNames options names (inputs_of starts) → StandsFor D.meaning old first → EndsAfterStarts D.meaning options starts first last
+        → HasOldOrOneSet options (inputs_of starts) old last }
 {}

@@ -12,79 +12,70 @@ use live_program::{
     HostPlaces, LiveFailure, Lived, PROGRAM, PrintedAnswers, TypedLines, run_program,
 };
 use live_stations::{
-    Asked, LiveSetup, StationPaths, StationsDay, Terminals, live_setup, live_stations,
-    tell_stations,
+    Asked, LiveSetup, StationPaths, StationsDay, Terminals, live_setup, live_stations, tell_day,
 };
 use program_frame::{Ending, Failure, tell};
 use std::env;
 use std::fs::File;
-use std::io::{BufReader, IsTerminal, Write};
+use std::io::{BufRead, BufReader, IsTerminal};
 use std::process::ExitCode;
-use std::rt::{Files, Runtime};
+use std::rt::{Files, Runtime, Stderr, Stdin, Stdout};
 use std::sync::Wait;
 use std::thread::Threads;
 
-/// Runs the program. What it prints at its end and its exit status are those of [`tell`]. A stream that takes no text changes nothing
-/// of them. There is a prompt where lines come from a terminal and answers go to one.
+// The standard streams.
+#[derive(Clone, Copy)]
+struct Streams {
+    input: Stdin,
+    out: Stdout,
+    err: Stderr,
+}
+
+/// Runs the program. What it prints at its end and its exit status are those of [`tell`], and with live stations those of [`tell_day`]. A
+/// stream that takes no text changes nothing of them.
 fn main(rt: HostRuntime) -> ExitCode {
-    let at_terminal = rt.stdin().is_terminal() && rt.stdout().is_terminal();
-    let prompt = if at_terminal { Some(rt.stdout()) } else { None };
+    let streams = Streams {
+        input: rt.stdin(),
+        out: rt.stdout(),
+        err: rt.stderr(),
+    };
     let (words, setup) = match read_words(&rt) {
         Ok(read) => read,
-        Err(ending) => return tell_end(&mut rt.stdout(), &mut rt.stderr(), Err(ending)),
+        Err(ending) => return tell_end(streams, Err(ending)),
     };
     match setup {
         LiveSetup::Live { source, paths } => {
             let count = paths.len();
             // Only here it is known that the system's runtime may be used by several threads.
             let stations = StationPaths::new(&rt, paths);
-            let lived = run_live(
-                &rt,
-                words.as_slice(),
-                source,
-                &stations,
-                count,
-                rt.stdout(),
-                rt.stderr(),
-            );
-            tell_live(&mut rt.stdout(), &mut rt.stderr(), lived)
+            let lived = run_live(&rt, words.as_slice(), source, &stations, count, streams);
+            tell_live(streams, lived)
         }
-        LiveSetup::NotLive { source } => {
-            let ended = run_words(
-                &rt,
-                words.as_slice(),
-                source,
-                prompt,
-                rt.stdout(),
-                &mut rt.stderr(),
-            );
-            tell_end(&mut rt.stdout(), &mut rt.stderr(), ended)
+        LiveSetup::NoneLive { source } => {
+            tell_end(streams, run_words(&rt, words.as_slice(), source, streams))
+        }
+        LiveSetup::NotAsked { source } => {
+            tell_end(streams, run_words(&rt, words.as_slice(), source, streams))
         }
     }
 }
 
 // Tells how a day ended: the exit status.
-fn tell_end<O: Write, E: Write>(
-    out: &mut O,
-    err: &mut E,
-    ended: Result<Lived, Ending<Failure<LiveFailure>>>,
-) -> ExitCode {
-    tell(out, err, PROGRAM, &ended).status
+fn tell_end(streams: Streams, ended: Result<Lived, Ending<Failure<LiveFailure>>>) -> ExitCode {
+    let mut out = streams.out;
+    let mut err = streams.err;
+    tell(&mut out, &mut err, PROGRAM, &ended).status
 }
 
 // Tells what there is to say of each station, or why there was no day of theirs: the exit status.
-fn tell_live<K: Drop, S: Drop, P: Drop, F: Drop, O: Write, E: Write>(
-    out: &mut O,
-    err: &mut E,
+fn tell_live<K: Drop, S: Drop, P: Drop, F: Drop>(
+    streams: Streams,
     lived: Result<StationsDay<K, S, P, F>, Ending<Failure<LiveFailure>>>,
 ) -> ExitCode {
+    let mut err = streams.err;
     match lived {
-        Ok(day) => {
-            // An error stream that takes no text changes nothing.
-            let _ = tell_stations(err, day.stations.as_slice());
-            day.told.status
-        }
-        Err(ending) => tell_end(out, err, Err(ending)),
+        Ok(day) => tell_day(&mut err, &day),
+        Err(ending) => tell_end(streams, Err(ending)),
     }
 }
 
@@ -94,8 +85,10 @@ fn read_words<R: Runtime + Files<File = File> + AllocGlobal>(
 ) -> Result<(Vec<String>, LiveSetup<DiskSource<R>>), Ending<Failure<LiveFailure>>> {
     let alloc = rt.alloc();
     let words: Vec<String> = env::args(rt)?.collect(alloc)?;
-    let setup = live_setup(alloc, DiskSource::new(rt.clone()?), words.as_slice())?;
-    Ok((words, setup))
+    match live_setup(alloc, DiskSource::new(rt.clone()?), words.as_slice()) {
+        Ok(setup) => Ok((words, setup)),
+        Err(fault) => Err(Ending::Failed(Failure::Work(LiveFailure::Serve(fault)))),
+    }
 }
 
 // Lives a day with live stations, and has its end told.
@@ -103,53 +96,56 @@ fn run_live<
     R: Runtime + Files<File = File> + AllocGlobal + Threads + Wait + Sync,
     S: Source + Drop,
     T: Terminals + Sync,
-    O: Write + Drop,
-    E: Write + Drop,
 >(
     rt: &R,
     words: &[String],
     source: S,
     stations: &T,
     count: usize,
-    out: O,
-    err: E,
-) -> Result<StationsDay<T::Keyboard, T::Screen, O, E>, Ending<Failure<LiveFailure>>> {
+    streams: Streams,
+) -> Result<StationsDay<T::Keyboard, T::Screen, Stdout, Stderr>, Ending<Failure<LiveFailure>>> {
     let asked = Asked {
         places: &HostPlaces::new(rt),
         source,
-        out,
-        err,
+        out: streams.out,
+        err: streams.err,
         words,
     };
     Ok(live_stations(rt, rt.alloc(), stations, count, asked)?)
 }
 
+// The lines of standard input. There is a prompt where they are typed at a terminal and answers go to one.
+fn typed_lines<R: BufRead + Drop>(reader: R, streams: Streams) -> TypedLines<R, Stdout> {
+    if !streams.input.is_terminal() {
+        return TypedLines::new(reader, None);
+    }
+    let prompt = if streams.out.is_terminal() {
+        Some(streams.out)
+    } else {
+        None
+    };
+    TypedLines::at_terminal(reader, prompt)
+}
+
 // Lives a day of one keyboard, over the system.
-fn run_words<
-    R: Runtime + Files<File = File> + AllocGlobal + Threads,
-    S: Source + Drop,
-    P: Write + Drop,
-    W: Write + Drop,
-    E: Write,
->(
+fn run_words<R: Runtime + Files<File = File> + AllocGlobal + Threads, S: Source + Drop>(
     rt: &R,
     words: &[String],
     source: S,
-    prompt: Option<P>,
-    out: W,
-    err: &mut E,
+    streams: Streams,
 ) -> Result<Lived, Ending<Failure<LiveFailure>>> {
     let alloc = rt.alloc();
     let mut source = source;
-    let mut keyboard = TypedLines::new(BufReader::new(alloc, rt.reader())?, prompt);
-    let mut screen = PrintedAnswers::new(out);
+    let mut err = streams.err;
+    let mut keyboard = typed_lines(BufReader::new(alloc, rt.reader())?, streams);
+    let mut screen = PrintedAnswers::new(streams.out);
     run_program(
         alloc,
         &HostPlaces::new(rt),
         &mut source,
         &mut keyboard,
         &mut screen,
-        err,
+        &mut err,
         words,
     )
 }

@@ -18,7 +18,7 @@ pub returns-clause-obeyed : goal.returns-clause-obeyed
 returns-clause-obeyed g c =
     let front = c.in_ok-front.front in
     let next = rw c.in-Some.is at c.in_ok-front.ensures.obeyed.stopped in (
-      all_told_by front.answers.items ++ notice_told front.station c.in-Some.notice,
+      all_told_by front.answers.items ++ notice_told front.station c.obey_front.new.day.history c.in-Some.notice,
       tells_both (g.S.Screen.shown c.args.screen.now) (g.S.Screen.shown c.obey_front.new.screen) (g.S.Screen.shown c.notify.new.screen) _ _ c.in_ok-front.ensures.told c.in_ok-notify.ensures.told,
       obeyed_first c.args.station c.args.lines.now c.args.day.now.history front c.obey_front.new.day.history c.in-Some.notice (omega arith) (record { typed = next.typed; next = next.next; refused = next.refused }) c.in_ok-front.ensures.obeyed.obeyed,
     )

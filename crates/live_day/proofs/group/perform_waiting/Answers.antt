@@ -12,7 +12,7 @@ returns-in-Ok-Some-clause-answered g c ok =
     let w : WaitingAnswer = record { count = c.entry_count.result; station = c.args.station; line = c.in-Ok-Some.line } in
     let pushed : c.push_reserved.new.self.items ≡ c.args.answers.now.items ++ w ∷ [] =
     c.push_reserved.ensures.items ∙ ap (λ (l : List WaitingAnswer). l ++ w ∷ []) c.reserve.ensures.items in
-    (one_told c.args.station c.in-Ok-Some.line, waits_one c.args.answers.now.items _ w pushed, record { answer = Some c.in-Ok-Some.line; by_meaning = answered; told_is = refl })
+    (one_told c.args.station c.perform_typed.new.self.history c.in-Ok-Some.line, waits_one c.args.answers.now.items _ w c.perform_typed.new.self.history c.entry_count.ensures.value pushed, record { whole = c.is_cut.ensures.no c.if-is_cut.false; answer = Some c.in-Ok-Some.line; by_meaning = answered; told_is = refl })
 
 pub returns-in-Ok-Some-clause-waiting : goal.returns-in-Ok-Some-clause-waiting
 returns-in-Ok-Some-clause-waiting g c =
@@ -26,7 +26,7 @@ returns-in-Ok-Some-clause-waiting g c =
 pub returns-in-Ok-None-clause-answered : goal.returns-in-Ok-None-clause-answered
 returns-in-Ok-None-clause-answered g c ok =
     let answered = rw c.in-Ok-None.field-0-is at c.in-Ok-None.ensures.answered in
-    ([], waits_none c.args.answers.now.items _ c.reserve.ensures.items, record { answer = None; by_meaning = answered; told_is = refl })
+    ([], waits_none c.args.answers.now.items _ c.reserve.ensures.items, record { whole = c.is_cut.ensures.no c.if-is_cut.false; answer = None; by_meaning = answered; told_is = refl })
 
 pub returns-in-Ok-None-clause-waiting : goal.returns-in-Ok-None-clause-waiting
 returns-in-Ok-None-clause-waiting g c =

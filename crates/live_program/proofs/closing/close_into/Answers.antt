@@ -26,7 +26,7 @@ returns-in-Err-default-clause-any_moment g c promised =
     (λ left. old_or_day _ _ _ _ left (written_alone _ _ _ _ c.new-folder.ensures.written c.in-Ok.ensures.wrote))
 
 pub returns-in-Err-clause-fault : goal.returns-in-Err-clause-fault
-returns-in-Err-clause-fault g c = inl (c.why_unwritten-why.result, given_up_as c.args.catalogue.now c.args.today _ _ c.in-Err.why c.why_unwritten-why.result c.why_unwritten-why.ensures.value c.in-Err.ensures.fault, refl)
+returns-in-Err-clause-fault g c = inl (c.why_unwritten-why.result, given_up_as c.args.catalogue.now c.args.end.today _ _ c.in-Err.why c.why_unwritten-why.result c.why_unwritten-why.ensures.value c.in-Err.ensures.fault, refl)
 
 pub returns-in-Err-default-clause-fault : goal.returns-in-Err-default-clause-fault
 returns-in-Err-default-clause-fault g c = inr (c.in-Err-default.fault, c.unplaced.ensures.value)

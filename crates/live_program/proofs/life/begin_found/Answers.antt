@@ -1,4 +1,4 @@
-use Rattle.std.proofs.Common.{◌∙◌, ap}
+use Rattle.std.proofs.Common.{◌∙◌, ap, inr}
 use Rattle.live_program.proofs.FailureLaws.{err_failed}
 use Rattle.live_program.proofs.LifeLaws.{log_fits, placed_as}
 use Rattle.live_program.proofs.life.begin_found.Goals as goal
@@ -23,4 +23,7 @@ pub returns-clause-refused : goal.returns-clause-refused
 returns-clause-refused g c = err_failed c.failed.result.ended _ c.failed.ensures.ended
 
 pub returns-clause-fault : goal.returns-clause-fault
-returns-clause-fault g c = (c.unstarted.result, (c.in-Err.stopped.fault, c.unstarted.ensures.value), c.failed.ensures.ended)
+returns-clause-fault g c = (c.unstarted.result, inr (c.in-Err.stopped.fault, c.unstarted.ensures.value), c.failed.ensures.ended)
+
+pub returns-in-Ok-clause-said : goal.returns-in-Ok-clause-said
+returns-in-Ok-clause-said g c = rw c.as_slice-in-Ok.ensures.value at c.print_bytes.ensures.front

@@ -12,19 +12,19 @@ returns-in-Ok g c = record {
       let m = g.D.Disk.meaning in
       let begun = c.args.day in
       let day = c.run_day.new.day in
-      let today = c.args.today in
+      let end = c.args.end in
       let x = g.C.Screen.shown c.args.screen.now in
       let y = g.C.Screen.shown c.run_day.new.screen in
       let kept = c.run_day.ensures.kept in
       let clean = c.requires.clean promised in
       let logged = c.close.ensures.logged promised in
       let closing = c.close.ensures.any_moment promised in
-      day_ends m _ _ _ _ _ begun.history day.history today x y begun.log.disk c.close.result.disk c.close.result.ended c.in-Ok.ensures.obeyed
-      (closed_day m promised begun day today x y kept c.requires.name clean c.close.result.disk logged closing) _
-      (placed_day m promised begun day today x y kept c.requires.name clean c.close.result.disk logged closing) (c.close.ensures.placed promised) c.close.ensures.count;
+      day_ends m _ _ _ _ _ begun.history day.history end x y begun.log.disk c.close.result.disk c.close.result.ended c.in-Ok.ensures.obeyed
+      (closed_day m promised begun day end x y kept c.requires.name clean c.close.result.disk logged closing) _
+      (placed_day m promised begun day end x y kept c.requires.name clean c.close.result.disk logged closing) (c.close.ensures.placed promised) c.close.ensures.count;
   read = ok_always c.close.result.ended _ c.in-Ok.ensures.read;
-  fault = err_by c.close.result.ended (IsUnclosed c.run_day.new.day.history c.args.today) (IsUnendedFrom (IsDayFault g.D.Disk.meaning (g.C.Screen.has_failed c.run_day.new.screen)
-      (CanReadNoMore (g.K.Keyboard.has_failed c.run_day.new.keyboard) (g.K.Keyboard.typed c.run_day.new.keyboard))) c.args.day.history.opened c.args.today)
+  fault = err_by c.close.result.ended (IsUnclosed c.run_day.new.day.history c.args.end.today) (IsUnendedFrom (IsDayFault g.D.Disk.meaning (g.C.Screen.has_failed c.run_day.new.screen)
+      (CanReadNoMore (g.K.Keyboard.has_failed c.run_day.new.keyboard) (g.K.Keyboard.typed c.run_day.new.keyboard))) c.args.day.history.opened c.args.end.today)
       (λ why is. (c.run_day.new.day.history, c.run_day.ensures.kept.after.history.opened, inr is)) c.close.ensures.fault;
 }
 
@@ -34,10 +34,10 @@ returns-in-Err g c = record {
       let m = g.D.Disk.meaning in
       let x = g.C.Screen.shown c.args.screen.now in
       let y = g.C.Screen.shown c.run_day.new.screen in
-      let stopped = stopped_day m promised c.args.day c.run_day.new.day c.args.today x y c.run_day.ensures.kept c.requires.name (c.requires.clean promised) in
-      stopped_ends m _ _ _ _ _ c.args.day.history c.run_day.new.day.history c.args.today x y c.args.day.log.disk c.stop.result.disk c.stop.result.ended (err_failed c.stop.result.ended _ c.stop.ensures.ended) (rw c.stop.ensures.disk stopped);
+      let stopped = stopped_day m promised c.args.day c.run_day.new.day c.args.end x y c.run_day.ensures.kept c.requires.name (c.requires.clean promised) in
+      stopped_ends m _ _ _ _ _ c.args.day.history c.run_day.new.day.history c.args.end x y c.args.day.log.disk c.stop.result.disk c.stop.result.ended (err_failed c.stop.result.ended _ c.stop.ensures.ended) (rw c.stop.ensures.disk stopped);
   read = ok_never c.stop.result.ended _ (err_failed c.stop.result.ended _ c.stop.ensures.ended);
   fault = err_is c.stop.result.ended _ (IsUnendedFrom (IsDayFault g.D.Disk.meaning (g.C.Screen.has_failed c.run_day.new.screen)
-      (CanReadNoMore (g.K.Keyboard.has_failed c.run_day.new.keyboard) (g.K.Keyboard.typed c.run_day.new.keyboard))) c.args.day.history.opened c.args.today) c.stop.ensures.ended
+      (CanReadNoMore (g.K.Keyboard.has_failed c.run_day.new.keyboard) (g.K.Keyboard.typed c.run_day.new.keyboard))) c.args.day.history.opened c.args.end.today) c.stop.ensures.ended
       (c.run_day.new.day.history, c.run_day.ensures.kept.after.history.opened, inl (c.from.result, stop_failed _ c.run_day.result c.in-Err.fault c.from.result c.in-Err.is c.run_day.ensures.fault c.from.ensures, refl));
 }

@@ -1,3 +1,4 @@
+use Rattle.live_program.proofs.SayingLaws.{said_for}
 use Rattle.std.proofs.Common.{inl, inr, map, refl}
 use Rattle.live_program.proofs.FailureLaws.{told_end_of}
 use Rattle.live_program.proofs.LifeLaws.{failed_unlived, unread_unlived}
@@ -32,3 +33,7 @@ returns-in_err-live_options-clause-fault g c =
       failed = c.in_err-live_options.ensures.fault;
       end_is = refl;
     }))
+
+pub returns-in_err-live_options-clause-said : goal.returns-in_err-live_options-clause-said
+returns-in_err-live_options-clause-said g c = said_for (g.S.Source.files c.args.source.now) (map g.T.AsStr.text c.args.words.now) c.in_ok-options.options (g.E.Write.contents c.args.err.now)
+    (g.E.Write.contents c.live_options.new.err) c.in_ok-options.ensures.asked c.live_options.ensures.said

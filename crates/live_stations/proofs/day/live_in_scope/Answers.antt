@@ -1,11 +1,10 @@
 use Rattle.std.proofs.Common.{◌≡◌, ◌∙◌, ℕ, List, length, map, subst, sym, arith}
-use Rattle.live_stations.specs.Handed.{AnswerEnd, AnswerRing, AreHandedFrom}
+use Rattle.live_stations.specs.Handed.{AnswerRing, AreHandedFrom}
 use Rattle.live_stations.specs.Hearings.{AreHeardFrom}
-use Rattle.live_stations.specs.Stations.{answers_in, lines_in, HavePrinted, HaveTyped}
+use Rattle.live_stations.specs.Stations.{answer_end, line_end, printing_of, typing_of}
 use Rattle.live_stations.specs.Tellings.{IsThreadFault}
-use Rattle.live_stations.specs.Typists.{LineRing}
 use Rattle.live_stations.specs.declared.hearing.Hearing.{Hearing}
-use Rattle.live_stations.proofs.MeetingLaws.{as_many, lived_by, rings_of, rings_unhanded, rings_unheard, rings_unused, same_length}
+use Rattle.live_stations.proofs.MeetingLaws.{as_many, lived_by, printed_for, rings_of, rings_unhanded, rings_unheard, rings_unused, same_length, typed_for}
 use Rattle.live_stations.proofs.TellingLaws.{end_told}
 use Rattle.live_stations.proofs.day.live_in_scope.Goals as goal
 
@@ -23,12 +22,12 @@ new-screen-requires-clause-unsent g c = rings_unhanded c.args.ends.hearings.item
 
 pub join_typists-requires-clause-room : goal.join_typists-requires-clause-room
 join_typists-requires-clause-room g c =
-    let many : length c.in-Ok.threads.typists.items ≡ length c.args.ends.stations.items = same_length (λ h. h.promise.lines.value) lines_in _ _ c.in-Ok.ensures.typists in
+    let many : length c.in-Ok.threads.typists.items ≡ length c.args.ends.stations.items = same_length (λ h. typing_of h.promise) (line_end c.args.terminals.now) _ _ c.in-Ok.ensures.typists in
     omega (arith, many, c.len.ensures, c.in_ok-reserve.ensures.ok)
 
 pub join_printers-requires-clause-room : goal.join_printers-requires-clause-room
 join_printers-requires-clause-room g c =
-    let many : length c.in-Ok.threads.printers.items ≡ length c.args.ends.stations.items = same_length (λ h. h.promise.answers.value) answers_in _ _ c.in-Ok.ensures.printers in
+    let many : length c.in-Ok.threads.printers.items ≡ length c.args.ends.stations.items = same_length (λ h. printing_of h.promise) (answer_end c.args.terminals.now) _ _ c.in-Ok.ensures.printers in
     omega (arith, many, c.len-2.ensures, c.in_ok-reserve-2.ensures.ok)
 
 pub returns-in-Err-clause-fault : goal.returns-in-Err-clause-fault
@@ -39,6 +38,7 @@ pub returns : goal.returns
 returns g c =
     let typed = g.T.Keyboard.Keyboard.typed in
     let contents = g.T.Screen.Write.contents in
+    let terminals = c.args.terminals.now in
     let keyboard = c.run_program-ended.new.keyboard in
     let screen = c.run_program-ended.new.screen in
     record {
@@ -55,11 +55,14 @@ returns g c =
         over = λ e. c.into_hearings.ensures.over (sym c.has_ended.ensures.value ∙ e);
         are_named = c.into_hearings.ensures.are_named;
         handed = subst (λ (l : List AnswerRing). AreHandedFrom screen.shown 1 l c.into_rings.result.items) (sym c.requires.answers) c.into_rings.ensures.rings;
-        typed_there = subst (λ (l : List LineRing). HaveTyped typed l c.join_typists.result.items) c.in-Ok.ensures.typists c.join_typists.ensures.typed;
-        printed_there = subst (λ (l : List AnswerEnd). HavePrinted contents l c.join_printers.result.items) c.in-Ok.ensures.printers c.join_printers.ensures.printed;
+        typed_there =
+            typed_for typed g.T.Terminals.types terminals c.args.ends.stations.items _ c.join_typists.result.items c.in-Ok.ensures.typists c.join_typists.ensures.typed;
+        printed_there =
+            printed_for contents g.T.Terminals.reads terminals c.args.ends.stations.items _ c.join_printers.result.items c.in-Ok.ensures.printers c.join_printers.ensures.printed;
       };
       told =
-          end_told g.O.Write.contents g.E.Write.contents c.args.asked.out c.tell-told.new.out c.run_program-ended.new.err c.tell-told.new.err c.run_program-ended.result c.tell-told.result c.tell-told.ensures.done c.tell-told.ensures.failed
+          end_told (g.S.Source.files c.args.asked.source) (map g.W.AsStr.text c.args.asked.words.now) g.O.Write.contents g.E.Write.contents c.args.asked.out c.tell-told.new.out c.args.asked.err
+          c.run_program-ended.new.err c.tell-told.new.err c.run_program-ended.result c.tell-told.result c.run_program-ended.ensures.said c.tell-told.ensures.done c.tell-told.ensures.failed
           c.tell-told.ensures.text c.tell-told.ensures.line c.tell-told.ensures.unprinted;
       fault = tt;
     }

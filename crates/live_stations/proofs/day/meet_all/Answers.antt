@@ -26,13 +26,13 @@ meeting-preserved g c =
       met = number_on room room' c.meet.result hs' rs' ts' ps' more met.2;
       many = omega (arith, c.meeting.invariant.many, ap length more, length-append room (c.meet.result ∷ []), ap length eh);
       room = omega (arith, c.meeting.invariant.room, c.push_reserved.ensures.len, c.push_reserved.ensures.capacity, ap length eh);
-      each = λ items shown all_heard m.
-          left_step g.K.Keyboard.typed g.W.Write.contents items shown all_heard room room' c.meet.result c.meeting.hearings.rest.items hs' c.meeting.answers.rest.items rs' c.meeting.typists.rest.items ts'
-          c.meeting.printers.rest.items ps' s.hearing s.ring s.typist s.printer eh er et ep more (c.meet.ensures.left items shown all_heard) (c.meeting.invariant.each items shown all_heard m);
+      each = λ types reads items shown all_heard m.
+          left_step g.K.Keyboard.typed g.W.Write.contents types reads items shown all_heard room room' c.meet.result c.meeting.hearings.rest.items hs' c.meeting.answers.rest.items rs' c.meeting.typists.rest.items ts'
+          c.meeting.printers.rest.items ps' s.hearing s.ring s.typist s.printer eh er et ep more (c.meet.ensures.left types reads items shown all_heard) (c.meeting.invariant.each types reads items shown all_heard m);
     }
 
 pub returns-clause-left : goal.returns-clause-left
-returns-clause-left g c items shown all_heard m = (c.meeting.invariant.each items shown all_heard m).0
+returns-clause-left g c types reads items shown all_heard m = (c.meeting.invariant.each types reads items shown all_heard m).0
 
 pub returns-clause-many : goal.returns-clause-many
 returns-clause-many g c =

@@ -1,6 +1,6 @@
 use Rattle.std.proofs.Common.{List, ℕ, subst}
 use Rattle.std.specs.Io.KnownBytes.{Appends}
-use Rattle.live_program.specs.Consoles.{shown_text}
+use Rattle.live_program.specs.Consoles.{shown_text, AppendsFront}
 use Rattle.rtrb.specs.Ring.{received}
 use Rattle.live_stations.proofs.HearingLaws.{same_consumer}
 use Rattle.live_stations.proofs.PrinterLaws.{one_printed, part_taken}
@@ -8,8 +8,10 @@ use Rattle.live_stations.proofs.printer.print_lines.Goals as goal
 
 pub returns-in-Err-clause-taken : goal.returns-in-Err-clause-taken
 returns-in-Err-clause-taken g c =
-    part_taken (g.W.Write.contents c.args.screen.now) (g.W.Write.contents c.loop.screen) _ (received c.args.answers.now) (received c.loop.answers) (received c.next_answer.new.answers) c.in-Some-next_answer.line
-    c.loop.invariant.printed c.in-Some-next_answer.ensures.some
+    let old = g.W.Write.contents c.loop.screen in
+    let new = g.W.Write.contents c.print_line.new.out in
+    part_taken (g.W.Write.contents c.args.screen.now) old new (received c.args.answers.now) (received c.loop.answers) (received c.next_answer.new.answers) c.in-Some-next_answer.line
+    c.loop.invariant.printed c.in-Some-next_answer.ensures.some (subst (λ (l : List ℕ). AppendsFront old new (shown_text l)) c.as_slice.ensures.value c.in-Err.ensures.front)
 
 pub loop-preserved : goal.loop-preserved
 loop-preserved g c =

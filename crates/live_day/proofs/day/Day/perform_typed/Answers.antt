@@ -1,3 +1,6 @@
+use Rattle.std.proofs.Common.{subst}
+use Rattle.live_day.specs.declared.keyboard.Typed.{Typed}
+use Rattle.live_day.specs.Sessions.{MeansTyped}
 use Rattle.live_day.specs.Days.{AnswersLine}
 use Rattle.live_day.proofs.SessionLaws.{answered_long, answered_text}
 use Rattle.live_day.proofs.day.Day.perform_typed.Goals as goal
@@ -9,3 +12,6 @@ returns-in-Text-clause-answered g c =
 pub returns-in-TooLong-clause-answered : goal.returns-in-TooLong-clause-answered
 returns-in-TooLong-clause-answered g c =
     answered_long (λ m answer. AnswersLine m c.args.station c.args.self.now.history c.perform_meaning.new.self.history answer) c.perform_meaning.result c.args.typed.now c.in-TooLong.is c.perform_meaning.ensures.answered
+
+pub returns-in-Cut-clause-answered : goal.returns-in-Cut-clause-answered
+returns-in-Cut-clause-answered g c = λ m means. absurd (subst (λ (t : Typed). MeansTyped t m) c.in-Cut.is means)
