@@ -6,7 +6,6 @@ use std::alloc::Global;
 use std::test::Fail;
 
 mod dates;
-mod findings;
 mod orders;
 mod sinks;
 mod want_of_memory;

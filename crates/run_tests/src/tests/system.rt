@@ -29,7 +29,10 @@ const FILES: [(&str, &[u8]); 6] = [
     ("placed/in/t.dbf", &TABLE),
     ("placed/in/s.prg", b"USE T\n"),
     ("placed/out/~niqarthu~LAST.TXT", b"of the run before"),
-    ("placed/out/~niqarthu.list", b"LAST.TXT\n"),
+    (
+        "placed/out/~niqarthu.list",
+        b"LAST.TXT\n~niqarthu: 1 names\n",
+    ),
     ("placed/out/~niqarthu~LOST.TXT", b"of no run"),
 ];
 
