@@ -4,24 +4,33 @@
     python3 beside.py PROGRAM FOLDER
 
 The model is mark.c with mark_script.c and mark_memos.c, which cc builds; without cc, and without the program sqlite3, their columns
-stay empty. Each job is done five times, by turns with the others, and the least processor time of each counts, of the process and of
-the system for it. Where the model writes the same files, they are compared byte by byte. The commands of a script are SQLite's by
-statements.py. Memory is the greatest of a run by the size of the files that it reads, where GNU time is.
+stay empty. Each job is done five times, by turns with the others: a time is the median of the processor time of the process and of
+the system for it, with the least and the greatest in brackets. A ratio is that of two medians; `alike` stands where the times of both
+overlap, or differ by less than a fifth. Where the model writes the same files, they are compared byte by byte. The commands of a
+script are SQLite's by statements.py. Memory is the greatest of a run by the size of the files that it reads, where GNU time is.
+
+A row is one of the tables of docs/BENCH.md, without its setup and its aims: fill.py puts it there.
 """
 
 import itertools
 import os
 import shutil
 import sqlite3
+import statistics
 import struct
 import subprocess
 import sys
 from pathlib import Path
 
 RUNS = 5
+# Two times that differ by less are alike.
+NOISE = 1.2
 TIME = "/usr/bin/time"
 INDEXES = ["BYCODE", "BYNAME", "BYREST"]
 STATIONS, STATION_LINES = 16, 10_000
+# The names of jobs, as docs/BENCH.md has them.
+WHOLE = {0: "read and write all, no index", 1: "the same, 1 index", 3: "the same, 3 indexes"}
+MEMOS, REINDEX, PACK = "memos, 1 index", "`--reindex`, 3 indexes", "PACK, 3 indexes"
 
 
 def processor_seconds(words, folder, given=subprocess.DEVNULL):
@@ -137,35 +146,45 @@ class Bench:
         done = subprocess.run([TIME, "-f", "%M", *words], cwd=self.folder, capture_output=True, text=True, check=True)
         return 1024 * int(done.stderr)
 
-    def least(self, jobs):
-        """The least time of each job, by turns; None where there is no job."""
-        times = [[job() for job in jobs if job] for _ in range(RUNS)]
-        least = iter([min(column) for column in zip(*times)])
-        return [next(least) if job else None for job in jobs]
+    def times(self, jobs):
+        """The times of each job, by turns, the least first; None where there is no job."""
+        rounds = [[job() for job in jobs if job] for _ in range(RUNS)]
+        columns = iter([sorted(column) for column in zip(*rounds)])
+        return [next(columns) if job else None for job in jobs]
 
 
-def told(seconds, beside):
-    return f"{beside:8.3f} s {seconds / beside:5.2f}" if beside else " " * 16
+def told(times):
+    """The median of some times, with the least and the greatest."""
+    return f"{statistics.median(times):.3f} ({times[0]:.3f}-{times[-1]:.3f})" if times else ""
 
 
-def show(job, seconds, model, base):
-    print(f"  {job:44} {seconds:8.3f} s   {told(seconds, model)}   {told(seconds, base)}")
+def ratio(times, beside):
+    """The ratio of two medians, if they are not alike."""
+    if not beside:
+        return ""
+    found = statistics.median(times) / statistics.median(beside)
+    overlap = times[0] <= beside[-1] and beside[0] <= times[-1]
+    return "alike" if overlap or 1 / NOISE < found < NOISE else f"{found:.2f}"
+
+
+def show(job, times, model, base):
+    print(f"  | {job} | {told(times)} | {told(base)} | {ratio(times, base)} | {told(model)} | {ratio(times, model)} |")
 
 
 def show_memory(bench):
     print("\n  greatest memory, times the files that are read")
     three = [f"{it}.NDX" for it in INDEXES]
     for job, files, setup, *options in [
-        ("read and write all, no index", ["T.DBF"], "PLAIN-EMPTY.SET"),
-        ("the same, 1 index", ["T.DBF", *three[:1]], "INDEXED-EMPTY.SET"),
-        ("the same, 3 indexes", ["T.DBF", *three], "THREE-EMPTY.SET"),
-        ("the same with --reindex", ["T.DBF", *three], "THREE-EMPTY.SET", "--reindex"),
-        ("PACK, 3 indexes, a tenth marked", ["MARKED.DBF", *three], "MARKED-PACK.SET"),
-        ("memos, 1 index", ["NOTES.DBF", "NOTES.DBT", "ONNOTES.NDX"], "NOTES-EMPTY.SET"),
+        (WHOLE[0], ["T.DBF"], "PLAIN-EMPTY.SET"),
+        (WHOLE[1], ["T.DBF", *three[:1]], "INDEXED-EMPTY.SET"),
+        (WHOLE[3], ["T.DBF", *three], "THREE-EMPTY.SET"),
+        (REINDEX, ["T.DBF", *three], "THREE-EMPTY.SET", "--reindex"),
+        (PACK, ["MARKED.DBF", *three], "MARKED-PACK.SET"),
+        (MEMOS, ["NOTES.DBF", "NOTES.DBT", "ONNOTES.NDX"], "NOTES-EMPTY.SET"),
     ]:
         size = sum((bench.folder / name).stat().st_size for name in files)
         memory = bench.memory(setup, *options)
-        print(f"  {job:40} {memory / 1e6:8.1f} MB {memory / size:6.2f}")
+        print(f"  | {job} | {memory / size:.2f} | {memory / 1e6:.1f} MB |")
 
 
 def show_runs(bench):
@@ -177,13 +196,13 @@ def show_runs(bench):
             bench.mark and (lambda: bench.model(INDEXES[:count])),
             bench.sqlite and (lambda: bench.base(count, into)),
         ]
-        show(f"read and write all, {count} indexes", *bench.least(jobs))
+        show(WHOLE[count], *bench.times(jobs))
     jobs = [
         lambda: bench.server("NOTES-EMPTY.SET"),
         bench.mark and (lambda: bench.model(["ONNOTES"], table="NOTES", memos=True)),
         bench.sqlite and (lambda: bench.base("notes", into)),
     ]
-    show("the same, a memo in each record, 1 index", *bench.least(jobs))
+    show(MEMOS, *bench.times(jobs))
 
 
 def show_sorting(bench):
@@ -192,7 +211,7 @@ def show_sorting(bench):
         bench.mark and (lambda: bench.model(INDEXES, "--reindex")),
         bench.sqlite and (lambda: bench.base(3, "REINDEX")),
     ]
-    show("read and write all with --reindex, 3 indexes", *bench.least(jobs))
+    show(REINDEX, *bench.times(jobs))
     for name in INDEXES:
         field = name.removeprefix("BY")
         jobs = [
@@ -200,23 +219,28 @@ def show_sorting(bench):
             bench.mark and (lambda: bench.model([name], "--reindex")),
             bench.sqlite and (lambda: bench.base(0, f"create index {name} on t ({field.lower()})")),
         ]
-        show(f"INDEX ON {field}", *bench.least(jobs))
+        show(f"INDEX ON {field}", *bench.times(jobs))
+
+
+def lines_of(bench, script):
+    """How many lines a script has after its USE."""
+    return (bench.folder / f"{script}.PRG").read_bytes().count(b"\n") - 1
 
 
 def show_commands(bench):
-    for job, script in (("MIXED.PRG, 1 index", "MIXED"), ("100,000 such commands", "LONG")):
+    for script in ("MIXED", "LONG"):
         jobs = [
             lambda: bench.server(f"INDEXED-{script}.SET"),
             bench.mark and (lambda: bench.model(INDEXES[:1], script=f"{script}.PRG")),
             bench.sqlite and (lambda: bench.commands(1, f"{script}.PRG")),
         ]
-        show(job, *bench.least(jobs))
-    lines = (bench.folder / "ASKED.PRG").read_bytes().count(b"\n") - 1
+        show(f"{lines_of(bench, script):,} commands, 1 index", *bench.times(jobs))
+    lines = lines_of(bench, "ASKED")
     jobs = [lambda: bench.server("PLAIN-ASKED.SET"), None, bench.sqlite and (lambda: bench.asked(lines))]
-    show(f"{lines:,} lines of ? RECNO()", *bench.least(jobs))
+    show(f"{lines:,} questions", *bench.times(jobs))
     scripts = write_sixteen(bench.folder)
     jobs = [lambda: bench.server("SIXTEEN.SET"), None, bench.sqlite and (lambda: bench.commands(0, "--each", *scripts))]
-    show("16 stations of 10,000 commands, no index", *bench.least(jobs))
+    show(f"{STATIONS} stations of {STATION_LINES:,} commands", *bench.times(jobs))
     for name in ("SIXTEEN.SET", *scripts):
         (bench.folder / name).unlink()
 
@@ -224,9 +248,9 @@ def show_commands(bench):
 def show_packing(bench):
     pack = bench.sqlite and (lambda: bench.base(3, "delete from t where marked; VACUUM"))
     jobs = [lambda: bench.server("MARKED-EMPTY.SET"), lambda: bench.server("MARKED-PACK.SET"), pack]
-    empty, packed, beside = bench.least(jobs)
-    show("PACK, 3 indexes, a tenth marked", packed, None, beside)
-    print(f"  that run by the one without PACK         {packed / empty:8.2f}")
+    empty, packed, beside = bench.times(jobs)
+    show(PACK, packed, None, beside)
+    print(f"  that run by the one without PACK {statistics.median(packed) / statistics.median(empty):.2f}")
 
 
 def write_sixteen(folder):
@@ -242,7 +266,7 @@ def write_sixteen(folder):
 
 def main():
     bench = Bench(os.path.abspath(sys.argv[1]), Path(sys.argv[2]).resolve())
-    print("\n  job, processor time                          server         mark.c, ratio     sqlite3, ratio")
+    print("\n  | job, processor time | server | sqlite3 | ratio | mark.c | ratio |")
     show_runs(bench)
     show_sorting(bench)
     show_commands(bench)

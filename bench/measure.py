@@ -1,10 +1,9 @@
 #!/usr/bin/env python3
 """Runs the program on a folder of make_tables.py, and prints times, memory and the targets beside them.
 
-    python3 measure.py PROGRAM FOLDER FIGURES
+    python3 measure.py PROGRAM FOLDER
 
-Each run is made three times, with new files in a fresh folder, and the least time counts. The figures that have a target
-are added to the file FIGURES, for draw_bars.py.
+Each run is made three times, with new files in a fresh folder, and the least time counts.
 """
 
 import os
@@ -69,16 +68,12 @@ def peak_memory(program, folder, setup, out):
 
 
 def main():
-    program, folder, kept = os.path.abspath(sys.argv[1]), Path(sys.argv[2]).resolve(), open(sys.argv[3], "a")
+    program, folder = os.path.abspath(sys.argv[1]), Path(sys.argv[2]).resolve()
     out = folder / "new"
     records = struct.unpack("<I", (folder / "T.DBF").read_bytes()[4:8])[0]
     for kind, names in (("PLAIN", ["T.DBF"]), ("INDEXED", ["T.DBF", "BYCODE.NDX"])):
         files = [folder / name for name in names]
         where = "with index" if kind == "INDEXED" else "without index"
-
-        def keep(job, figure, unit, target):
-            kept.write(f"{records}\t{job}, {where}\t{figure}\t{unit}\t{target}\n")
-
         size = sum(file.stat().st_size for file in files)
         copied = min(copy_seconds(files, out) for _ in range(RUNS))
         print(f"\n{records:,} records, {where}: {size / 1e6:.1f} MB of files")
@@ -91,23 +86,18 @@ def main():
             if script == "EMPTY":
                 empty = seconds
                 each = seconds / records * 1e6
-                keep("a record read and written", each, "µs", READ_AND_WRITE)
                 print(f"    µs a record, read and written {judged(each, READ_AND_WRITE)}")
                 ratio = seconds / copied
                 told = f"{ratio:8.2f}"
                 if kind == "PLAIN":
-                    keep("the time of copying", ratio, "times", COPIES)
                     told = judged(ratio, COPIES)
                 print(f"    times the copying             {told}")
             else:
                 each = (seconds - empty) / commands * 1e6
                 told = f"{each:8.2f}"
                 if script == "BYNUMBER":
-                    keep("a command by record number", each, "µs", COMMAND)
                     told = judged(each, COMMAND)
                 print(f"    µs a command                  {told}")
-            if script == "EMPTY":
-                keep("peak memory", memory / size, "times the files", MEMORY)
             print(f"    peak memory, times the files  {judged(memory / size, MEMORY)}   {memory / 1e6:.1f} MB")
     shutil.rmtree(out)
 

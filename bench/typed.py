@@ -4,11 +4,11 @@
     python3 typed.py PROGRAM FOLDER
 
 The lines of a script come to station_prompt, which lies beside the server PROGRAM, through a pipe; the server runs the same
-script. Of both the same without lines is taken off, so that what is left is the lines'. First the processor time a line, with
-the system's syncs switched off by a library that is loaded before the C library, the least of five; without cc this is left
-out. Then the time by the clock of a line that is synced, beside the two writes and the two syncs of its group alone, by hand:
-of lines that come one by one, each after the answer of the one before, and of lines that are there together. This is left out
-where FOLDER lies in memory, since nothing is synced there.
+script. Of the server the same without lines is taken off, and of the prompt a day of the first line alone, since one without lines
+writes no tables. So what is left is the lines'. First the processor time a line, with the system's syncs switched off by a library
+that is loaded before the C library, the least of five; without cc this is left out. Then the time by the clock of a line that is
+synced, beside the two writes and the two syncs of its group alone, by hand: of lines that come one by one, each after the answer of
+the one before, and of lines that are there together. This is left out where FOLDER lies in memory, since nothing is synced there.
 """
 
 import os
@@ -54,7 +54,7 @@ def without_syncs(server, prompt, folder, out, lines):
                 ([server, "--setup", f"{kind}-LONG.SET", *rest], b""),
                 ([server, "--setup", f"{kind}-EMPTY.SET", *rest], b""),
                 ([prompt, "--setup", f"{kind}-LONG.SET", *rest], b"".join(lines)),
-                ([prompt, "--setup", f"{kind}-LONG.SET", *rest], b""),
+                ([prompt, "--setup", f"{kind}-LONG.SET", *rest], lines[0]),
             ]
             times = []
             for _ in range(RUNS):
@@ -63,8 +63,8 @@ def without_syncs(server, prompt, folder, out, lines):
                     fresh(out)
                     row.append(processor_seconds(words, folder, typed, library))
                 times.append(row)
-            script, empty, typed, untyped = (min(column) for column in zip(*times))
-            by_server, by_prompt = ((with_lines - none) / len(lines) * 1e6 for with_lines, none in ((script, empty), (typed, untyped)))
+            script, empty, typed, first = (min(column) * 1e6 for column in zip(*times))
+            by_server, by_prompt = (script - empty) / len(lines), (typed - first) / (len(lines) - 1)
             print(f"  a line, {indexes} indexes, no syncs{'':12} {by_server:8.2f} us   {by_prompt:8.2f} us   {by_prompt / by_server:5.2f} times")
 
 
@@ -132,11 +132,11 @@ def with_syncs(prompt, folder, out, lines):
         fresh(out)
         typed = seconds_of(words, folder, b"".join(lines))
         fresh(out)
-        untyped = seconds_of(words, folder, b"")
+        first = seconds_of(words, folder, lines[0])
         fresh(out)
         each = seconds_by_hand(out / "BYHAND.LOG", lines) / len(lines)
         together = seconds_by_hand(out / "BYHAND.LOG", groups_of(lines)) / len(lines)
-        rows.append((one_by_one, each, (typed - untyped) / len(lines), together))
+        rows.append((one_by_one, each, (typed - first) / (len(lines) - 1), together))
     least = [min(column) * 1e6 for column in zip(*rows)]
     for how, typed, by_hand in (("one by one", *least[:2]), ("together", *least[2:])):
         print(f"  a line, 1 index, synced, {how:10}    {typed:8.1f} us   {by_hand:8.1f} us by hand   {typed / by_hand:5.2f} times")

@@ -1,4 +1,4 @@
-"""A folder of a disk, as the calls of a trace change it, and what a crash of the machine may leave of it, by what docs/DECISIONS.md believes of a
+"""A folder of a disk, as the calls of a trace change it, and what a crash of the machine may leave of it, by what docs/DISK.md believes of a
 disk. A trace is what fail.c writes down of a run."""
 
 import functools

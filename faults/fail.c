@@ -3,7 +3,7 @@
    of an error, as 5 (EIO); `half`, a read or a write of half of the bytes that it would take; `after`, EIO though it was done; `kill`, the program
    ends before it; `killed`, after it; `wait`, it waits while the file that FAULT_WAIT names is there. With FAULT_ON set the error
    is that of all later calls too, but for close. With FAULT_LINES set a read of standard input takes one line at most. FAULT_LOG names the file that gets a line for each call: what it is, and of what.
-   FAULT_TRACE names the file that gets an entry for each call that has changed or opened something, after it was made: what it is,
+   FAULT_TRACE names the file that gets an entry for each call that has changed or opened something, after it was made, and for each sync that was made to fail (`lost`): what it is,
    the descriptor or 0, the place in the file, how many bytes follow, a line feed, these bytes, and a line feed. They are
    what was written, or a path, or for a rename two paths with a line feed between them. */
 #define _GNU_SOURCE
@@ -93,8 +93,11 @@ static long call(const char *what, const char *name, long number, long a, long b
         die();
     while (due && is("wait") && syscall(SYS_access, getenv("FAULT_WAIT"), F_OK) == 0)
         usleep(1000);
-    if (error && !closes && (due || (on && first && n > first)))
+    if (error && !closes && (due || (on && first && n > first))) {
+        if (trace_file >= 0 && (number == SYS_fsync || number == SYS_fdatasync))
+            trace("lost", name, number, a, b, d, 0);
         return errno = error, -1;
+    }
     if (due && is("half") && (number == SYS_read || number == SYS_write || number == SYS_pwrite64) && within(number, a, c) > 1)
         c = within(number, a, c) / 2;
     long answer = lines && number == SYS_read && a == 0 ? read_line(a, (char *)b, c) : syscall(number, a, b, c, d, e);

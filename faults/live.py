@@ -1,8 +1,9 @@
 """Days of station_prompt in the demo office's folder: typed through a pipe and at a terminal, with each call on files failing in turn, killed,
-and on logs that are cut or changed. What they have to come to is told by runs of the server and by `entries_of`, which reads a log."""
+and on a log of another's. What they have to come to is told by runs of the server and by `entries_of`, which reads a log."""
 
 import collections
 import contextlib
+import hashlib
 import os
 import pathlib
 import pty
@@ -21,7 +22,9 @@ from office import LIST, NO_SETUP, SECONDS, files_of, is_reserved
 PROGRAM = office.HERE.parent / "crates/station_prompt/out/station_prompt"
 NAME = "station_prompt"
 # The log of a day, in the folder of `--out`, and one without entries.
-LOG, EMPTY_LOG = "STATIONS.LOG", b"-"
+LOG, NO_ENTRIES = "STATIONS.LOG", b"-"
+# How many digits the sum of a line has.
+SUM_LEN = 16
 TODAY = "19870315"
 # How many lines are typed in the days of which each call fails; in the day that is killed again and again, and how often that is.
 SWEPT, THOUSAND, KILLS = 30, 1000, 50
@@ -36,8 +39,9 @@ UNREAD_LINES = f"{NAME}: cannot read the lines: the next start goes on with the 
 UNWRITTEN_LOG = f"{NAME}: cannot write the log: the next start goes on with it\n"
 UNPRINTED_ANSWERS = f"{NAME}: cannot print the answers: the next start goes on with the log\n"
 UNSTARTED = f"{NAME}: cannot read or write the log\n"
-NO_LOG = f"{NAME}: {LOG} is no log, or somebody has changed it\n"
-NOT_HELD = re.compile(f"{re.escape(NO_LOG)}|{NAME}: entry [0-9]+ of the log: (no entry of a station stands here|station [0-9]+ has another answer on these tables)\n")
+# Of a file of another at the log's name: that it is no log, or that the log did not begin with this setup.
+NO_LOG = (f"{NAME}: entry 1 of the log: {LOG} is no log of this version, or somebody has changed it\n",
+          f"{NAME}: OFFICE.SET is not the file with which the day of the log began\n")
 
 
 def own(line):
@@ -50,6 +54,8 @@ DAY_OPEN = "station_server: a day is open in the folder: station_prompt goes on 
 UNPRINTED, UNFINISHED, IN_USE = own(office.UNPRINTED), own(office.UNFINISHED), own(office.IN_USE)
 
 Entry = collections.namedtuple("Entry", "station command answer")
+# What the log of an open day begins with: the files that were read, and whether the indexes were made anew, as in a journal.
+HEAD = re.compile(rb"(?:read [0-9]+ [0-9]+ [0-9a-f]{64} [^\n]*\n)*reindex (?:yes|no)\n")
 
 
 def entry_at(text, start):
@@ -65,12 +71,24 @@ def entry_at(text, start):
     return Entry(station, text[numbers.end() : middle], text[middle + 1 : end]), end + 1
 
 
+def closed_log(count):
+    """The log of a day that was closed with so many commands."""
+    return b"-%d commands\n" % count
+
+
+def sum_of(line):
+    """The sum of an entry's line in a log."""
+    return hashlib.sha256(line).hexdigest()[:SUM_LEN].encode()
+
+
 def gated(log):
-    """The entries after open gates with which a log begins, and what stands after them. None where an open gate has something else after it."""
+    """The entries after open gates with which a log begins, each behind its sum, and what stands after them. None where an open gate has
+    something else after it."""
     entries, start = [], 0
     while log[start : start + 1] == b"+":
-        found = entry_at(log, start + 1)
-        if not found:
+        line = start + SUM_LEN + 2
+        found = entry_at(log, line) if log[line - 1 : line] == b" " else None
+        if not found or log[start + 1 : line - 1] != sum_of(log[line : found[1]]):
             return None, b""
         entries.append(found[0])
         start = found[1]
@@ -78,13 +96,14 @@ def gated(log):
 
 
 def entries_of(log):
-    """The entries that a log stands for: those after open gates. Then nothing comes, or a shut gate and anything, or another byte and a whole
-    group, whose gate that byte was to be. None where it is no log."""
-    entries, rest = gated(log)
-    if entries is None or rest[:1] in (b"", b"-"):
+    """The entries that a log stands for: those after its head and open gates. Then a shut gate comes and anything, or another byte and a whole
+    group, whose gate that byte was to be: it counts. None where it is no log."""
+    head = HEAD.match(log)
+    entries, rest = gated(log[head.end() :] if head else log)
+    if entries is None or rest[:1] == b"-":
         return entries
     group, end = gated(b"+" + rest[1:])
-    return entries if group and end == EMPTY_LOG else None
+    return entries + group if group and end == NO_ENTRIES else None
 
 
 def journal_of(text):
@@ -212,9 +231,9 @@ class Days:
         rest = [iter([line for line in lines_of(script) if not is_status(line)]) for script in scripts]
         return journal, [(entry.station, next(rest[entry.station - 1])) for entry in journal], left
 
-    def closed(self, left, stations):
-        """The files of the end of a day, by those of the server's run: a row of DISPLAY STATUS is no entry, and in no answer file."""
-        files = {**left, LOG: EMPTY_LOG}
+    def closed(self, left, stations, count):
+        """The files of the end of a day of so many commands, by those of the server's run: a row of DISPLAY STATUS is no entry, and in no answer file."""
+        files = {**left, LOG: closed_log(count)}
         for name in (f"STATION{station}.TXT" for station in range(1, stations + 1)):
             files[name] = b"".join(line for line in left[name].splitlines(keepends=True) if not is_status(line))
         return files
@@ -233,12 +252,12 @@ class Days:
             if line.startswith(b"STATION "):
                 name = line.split()[1].decode()
                 files = self.of_one_station(self.old[name])
-                _, left = self.run(files)
+                journal, left = self.run(files)
                 ended = self.day_of(files, self.old[name])
-                holds = ended.status == 0 and ended.shown == left["STATION1.TXT"].split(b"\n")[:-1] and ended.files == self.closed(left, 1)
+                holds = ended.status == 0 and ended.shown == left["STATION1.TXT"].split(b"\n")[:-1] and ended.files == self.closed(left, 1, len(journal))
                 bad += self.told(f"{name}, typed by its one station", holds, ended)
         ended = self.day_of(self.old, typed(self.lines))
-        holds = ended.status == 0 and ended.count == len(self.journal) and ended.tells_kept and ended.told == "" and ended.files == self.closed(self.served, 5)
+        holds = ended.status == 0 and ended.count == len(self.journal) and ended.tells_kept and ended.told == "" and ended.files == self.closed(self.served, 5, len(self.journal))
         holds = holds and ended.shown == [entry.answer for entry in self.journal]
         return bad + self.told("the scripts of all five stations, typed in the order of the server's journal", holds, ended)
 
@@ -283,12 +302,13 @@ class Days:
         os.close(master)
         ended = Ended(status, b"", repr(seen).encode(), files_of(folder))
         shutil.rmtree(folder)
-        return self.told("a terminal, with its prompts", status == 0 and ended.files[LOG] == EMPTY_LOG, ended)
+        return self.told("a terminal, with its prompts", status == 0 and ended.files[LOG] == closed_log(2), ended)
 
     def long_lines(self):
-        """A line of a megabyte is answered as one that can't be read, and the input may end in the middle of a line."""
-        ended = self.day_of(self.old, b"USE STAFF\n" + b"X" * MEGABYTE + b"\nGO 2\n? RECNO()")
-        holds = ended.status == 0 and ended.count == 4 and ended.shown == [b"OK", b"REFUSED 19 BadCommand", b"OK", b"2"]
+        """A line of a megabyte is answered as one that can't be read. Where the input ends in the middle of a line, it is not performed."""
+        ended = self.day_of(self.old, b"USE STAFF\n" + b"X" * MEGABYTE + b"\nGO 2\nDELETE")
+        shown = [b"OK", b"REFUSED 19 BadCommand", b"OK", b"NOT PERFORMED: THE LINE WAS CUT"]
+        holds = ended.status == 0 and ended.count == 3 and ended.shown == shown
         return self.told("a line of a megabyte, and a last line without a line feed", holds, ended)
 
     # ---- each call fails in turn
@@ -337,7 +357,7 @@ class Days:
             return False, recovered
         if files == self.whole:
             return wanted in ("new", "either") and done == SWEPT, recovered
-        entries = entries_of(files.pop(LOG, EMPTY_LOG))
+        entries = entries_of(files.pop(LOG, NO_ENTRIES))
         if wanted == "new" or files != self.old or entries is None or entries != self.journal[: len(entries)] or not done <= len(entries) <= done + more:
             return False, recovered
         rest = self.day(folder, self.text(len(entries)))
@@ -467,7 +487,7 @@ class Days:
             ended = self.killed(folder, lines[most : most + 20], chance)
             answers = [entry.answer for entry in journal[most:]][: len(ended.shown)]
             shown = most + len(ended.shown)
-            log = entries_of(ended.files.get(LOG, EMPTY_LOG))
+            log = entries_of(ended.files.get(LOG, NO_ENTRIES))
             found += len(ended.shown)
             if ended.status != -signal.SIGKILL or ended.shown != answers or log != journal[: len(log)] or not shown <= len(log) <= most + 20:
                 shutil.rmtree(folder)
@@ -475,42 +495,11 @@ class Days:
             most = len(log)
         ended = self.day(folder, b"".join(line + b"\n" for line in lines[most:]))
         shutil.rmtree(folder)
-        holds = ended.status == 0 and ended.told == again(journal[:most]) and ended.count == THOUSAND and ended.files == self.closed(left, 1)
+        holds = ended.status == 0 and ended.told == again(journal[:most]) and ended.count == THOUSAND and ended.files == self.closed(left, 1, THOUSAND)
         holds = holds and ended.shown == [entry.answer for entry in journal[most:]]
         return self.told(f"{THOUSAND} lines, killed {KILLS} times: {most} entries then, of which {found} were shown", holds, ended)
 
-    # ---- logs that are cut or changed
-
-    def logs_part(self):
-        """A log that is cut after each byte, and one of whose last group each byte is changed, before its gate is open and after."""
-        entries = self.journal[:6]
-        log = b"".join(b"+%d %d %d %s %s\n" % (e.station, len(e.command), len(e.answer), e.command, e.answer) for e in entries) + b"-"
-        gate = log.rindex(b"\n+") + 1
-        staged = log[:gate] + b"-" + log[gate + 1 :]
-        changed = lambda text, at: text[:at] + bytes([text[at] ^ 1]) + text[at + 1 :]
-        return sum([
-            self.logs_tried("a log that is cut", [log[:at] for at in range(len(log) + 1)]),
-            self.logs_tried("a log whose last group is cut behind a shut gate", [staged[:at] for at in range(gate + 1, len(staged))], 5),
-            self.logs_tried("a log whose last group is changed behind a shut gate", [changed(staged, at) for at in range(gate + 1, len(staged))], 5),
-            self.logs_tried("a log whose last group is changed", [changed(log, at) for at in range(gate, len(log))]),
-        ])
-
-    def logs_tried(self, title, logs, count=None):
-        """Days on these logs: on how many the day goes on, and which are refused."""
-        good, refused, wrong = 0, 0, None
-        logs = logs[:: self.trial.step]
-        for log, ended in zip(logs, self.trial.pool.map(lambda log: self.day_of(self.old | {LOG: log}, b""), logs)):
-            entries = entries_of(log)
-            if ended.status == 0:
-                good += 1
-                holds = entries is not None and count in (None, len(entries)) and ended.count == len(entries)
-                holds = holds and ended.told == again(entries) and ended.files[LOG] == EMPTY_LOG
-            else:
-                refused += 1
-                holds = count is None and ended.status == 5 and NOT_HELD.fullmatch(ended.told) and ended.files == self.old | {LOG: log}
-                holds = holds and (entries is None or entries != self.journal[: len(entries)])
-            wrong = wrong if holds else wrong or ended
-        return self.told(f"{title}: {good} days go on, {refused} are refused with status 5", wrong is None, wrong)
+    # ---- a log of another's
 
     def no_log(self):
         """A file of somebody's has the log's name: it is refused, and stays."""
@@ -518,20 +507,9 @@ class Days:
         for foreign in (b"Dear Anna,\n", b"x", b"\0" * 4096, self.old["STAFF.DBF"]):
             files = self.old | {LOG: foreign}
             ended = self.day_of(files, b"USE STAFF\n")
-            if (ended.status, ended.told, ended.files) != (5, NO_LOG, files):
+            if (ended.status, ended.files) != (5, files) or ended.told not in NO_LOG:
                 wrong = wrong or ended
         return self.told("a file of another at the log's name, which a day refuses", wrong is None, wrong)
-
-    def changed_tables(self):
-        """A log that does not hold on the tables, since somebody has changed them: it is refused, and stays."""
-        files = self.killed_after(b"USE STAFF\nGO 2\n? NAME\n")
-        table = files["STAFF.DBF"]
-        header, record = (int.from_bytes(table[at : at + 2], "little") for at in (8, 10))
-        second = header + record + 1
-        other = files | {"STAFF.DBF": table[:second] + b"SOMEBODY" + table[second + 8 :]}
-        ended = self.day_of(other, b"GO 3\n")
-        said = f"{NAME}: entry 3 of the log: station 1 has another answer on these tables\n"
-        return self.told("a log that does not hold on the tables", ended.status == 5 and ended.told == said and ended.files == other, ended)
 
     def killed_after(self, text):
         """The files that a day leaves that is killed when all these lines are answered."""
@@ -564,7 +542,7 @@ class Days:
             status = day.wait(SECONDS)
         ended = Ended(status, first, told, files_of(folder))
         shutil.rmtree(folder)
-        log = entries_of(ended.files.get(LOG, b""))
+        log = entries_of(ended.files.get(LOG, NO_ENTRIES))
         holds = (status, ended.told) == (4, UNPRINTED_ANSWERS) and len(log) == 3 and ended.files.keys() - {LOG} == self.old.keys()
         return self.told("nobody reads the answers any more", holds, ended)
 
@@ -612,7 +590,7 @@ class Days:
         self.whole, self.began = ended.files, ""
         bad = self.typed_part()
         bad += self.told(f"{SWEPT} lines", ended.status == 0 and ended.count == SWEPT and ended.shown == self.answers(0), ended)
-        bad += self.at_once() + self.terminal() + self.long_lines() + self.thousand() + self.logs_part() + self.no_log() + self.changed_tables()
+        bad += self.at_once() + self.terminal() + self.long_lines() + self.thousand() + self.no_log()
         return bad + self.reader_gone() + self.second_day() + self.open_day() + self.limited() + self.calls_part()
 
 

@@ -112,7 +112,7 @@ class LiveDays:
         """How many lines are in the log of a folder that was recovered, or that all of them are in its files; None where it is otherwise."""
         if files == self.whole:
             return len(LINES)
-        log = files.pop(live.LOG, live.EMPTY_LOG)
+        log = files.pop(live.LOG, live.NO_ENTRIES)
         entries = live.entries_of(log)
         if is_closed or files != self.old or entries is None or entries != self.journal[: len(entries)] or not least <= len(entries) <= most:
             return None

@@ -41,7 +41,7 @@ import tty
 sys.dont_write_bytecode = True
 import live
 import office
-from live import EMPTY_LOG, LOG, NAME, TODAY, UNWRITTEN_LOG, again, entries_of
+from live import LOG, NAME, NO_ENTRIES, TODAY, UNWRITTEN_LOG, again, closed_log, entries_of
 
 SETUP = "LIVE.SET"
 STATIONS = range(1, 6)
@@ -372,12 +372,13 @@ class Stations:
     # ---- what a day that was closed has to leave
 
     def wrong_end(self, day, stations, ended, partly=(), said="", performed=None):
-        """What is wrong at the end of a day, or None. Of the stations in `partly` not all was read; of `performed` not all lines were heard."""
+        """What is wrong at the end of a day, or None. Of the stations in `partly` not all was read, and the status is 4; of `performed` not all
+        lines were heard."""
         status, count, told = ended
-        if status != 0 or told not in ([said] if isinstance(said, str) else said):
+        if status != (4 if partly else 0) or told not in ([said] if isinstance(said, str) else said):
             return f"status {status}, {told!r}, not {said!r}"
         left = office.files_of(day.folder)
-        total, wanted = 0, {LOG: EMPTY_LOG, SETUP: files()[SETUP]}
+        total, wanted = 0, {SETUP: files()[SETUP]}
         for number, station in stations.items():
             text = left.get(f"STATION{number}.TXT")
             if text is None:
@@ -396,7 +397,7 @@ class Stations:
             wanted[f"T{number}.DBF"] = table_of(texts, deleted)
         if count != total:
             return f"{count} commands, and {total} answers"
-        wanted["S.DBF"] = left.get("S.DBF")
+        wanted |= {"S.DBF": left.get("S.DBF"), LOG: closed_log(total)}
         if left != wanted:
             return f"other files: {sorted(name for name in left.keys() | wanted.keys() if left.get(name) != wanted.get(name))}"
         return None
@@ -465,7 +466,7 @@ class Stations:
 
     def wrong_log(self, day, stations, shown, wanted=-signal.SIGKILL):
         """What is wrong of the log of a day that was not closed, or None, and its entries."""
-        status, log = day.program.returncode, office.files_of(day.folder).get(LOG, EMPTY_LOG)
+        status, log = day.program.returncode, office.files_of(day.folder).get(LOG, NO_ENTRIES)
         entries = entries_of(log)
         if status != wanted or entries is None:
             return f"status {status}, log {log[-60:]!r}", []
