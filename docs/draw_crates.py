@@ -1,88 +1,105 @@
 #!/usr/bin/env python3
-"""Draws docs/crates.svg from crates.txt: each crate one row below the lowest of those that stand on it.
+"""Draws docs/crates.svg: the crates in six bands. A crate uses crates of its own band and of those below it, but for two uses (ALLOWED).
 
-    python3 docs/draw_crates.py
+    python3 docs/draw_crates.py [FILE]
 
-Arrows go from a row to the next one alone, so that none passes a box; each crate has one from above at least, but for the
-programs. The crates of tests, what they alone stand on (`memory_disk`, `sample_files`, `scarce`), and the demo's are left out.
+FILE is docs/crates.svg, if left out. Which crate uses which is read from crates.txt. The status is 1, and nothing is drawn, where a crate
+stands in no band, or uses one of a band above its own. The crates of tests are left out, with those that only these use.
 """
 
 import pathlib
+import sys
 
 TOP = pathlib.Path(__file__).resolve().parent.parent
-WIDTH, HEIGHT, GAP_X, GAP_Y, MARGIN = 150, 34, 24, 46, 20
+BANDS = [
+    ("Programs", "#e8eefc", "main; options, work, messages", [
+        "station_server", "station_prompt", "table_tool", "station_audit",
+        "server_program", "live_stations", "live_program", "tool_program", "audit_program", "table_maker", "program_frame"]),
+    ("A live day", "#e6f4ea", "each answer is on the disk before it is shown", ["open_day", "live_day", "live_log"]),
+    ("A run", "#fdf3e1", "scripts, threads, a whole run from files to files", [
+        "office_run", "setup_check", "setup_files", "journal_file", "kept_files", "audit", "answer_pairs", "field_list", "station_lines"]),
+    ("The catalogue", "#fbe9ec", "what each command does (Step); the journal; the lock", ["shared_catalogue", "catalogue_core", "lock_table"]),
+    ("Tables and indexes", "#efe9fb", "what a table is; reading, writing, editing", [
+        "table_core", "table_order", "ndx_index", "key_expr", "dbf_image", "dbf_fields",
+        "table_diff", "table_text", "table_loader", "table_reader", "index_text"]),
+    ("Bytes and files", "#eceff1", "all new files or none, after any crash", ["folders", "files_in_place", "disk_in_place", "byte_io"]),
+]
+# The uses of a crate in a band above: a definition (`first_fault`), and whether a day is open.
+ALLOWED = {("folders", "dbf_fields"), ("setup_check", "open_day")}
+FOR_TESTS = {"memory_disk", "sample_files", "scarce", "case_files", "cases"}
+WIDTH, LEFT, BOX, STEP, HEAD, GAP, MARGIN, BREAK = 1080, 170, 28, 36, 24, 16, 6, 8
+LETTER, SPACE = 7.1, 16
 
 
 def crates():
-    """Returns the crates of crates.txt, each with the crates of this repository that it names."""
+    """Returns the crates of crates.txt, each with what it uses, without those of tests."""
     named = {}
     for line in (TOP / "crates.txt").read_text().splitlines():
-        line = line.split("#")[0].strip()
-        if line:
-            name, below = line.split(":")
-            named[name] = below.split()
-    for_tests = [name for name in named if name.endswith("_tests") or name in ("memory_disk", "sample_files", "scarce", "case_files", "cases")]
-    named = {name: below for name, below in named.items() if name not in for_tests}
-    return {name: [it for it in below if it in named] for name, below in named.items()}
+        name, _, used = line.split("#")[0].strip().partition(":")
+        if name and name not in FOR_TESTS and not name.endswith("_tests"):
+            named[name] = used.split()
+    return named
 
 
-def rows_of(named):
-    """Returns the crates in rows: each crate stands one row below the lowest of those that name it."""
-    row = {}
-    for name in reversed(named):  # crates.txt has the lowest first
-        row[name] = 1 + max((row[it] for it in row if name in named[it]), default=-1)
-    rows = [[] for _ in range(1 + max(row.values()))]
-    for name in named:
-        rows[row[name]].append(name)
+def faults(named):
+    """Returns what in the bands is not so."""
+    level = {name: at for at, (_, _, _, names) in enumerate(BANDS) for name in names}
+    told = [f"{name} stands in no band" for name in named if name not in level]
+    told += [f"there is no crate {name}" for name in level if name not in named]
+    above = [(name, used) for name in named for used in named[name] if name in level and level.get(used, len(BANDS)) < level[name]]
+    return told + [f"{name} uses {used}, of a band above" for name, used in above if (name, used) not in ALLOWED]
+
+
+def rows_of(names):
+    """Returns the names of a band in rows that fit its width, each with its place and its width."""
+    rows, x = [[]], LEFT
+    for name in names:
+        width = len(name) * LETTER + SPACE
+        if x + width > WIDTH - 2 * MARGIN:
+            rows.append([])
+            x = LEFT
+        rows[-1].append((name, x, width))
+        x += width + 8
     return rows
 
 
-def arrows_of(named, rows):
-    """Returns the arrows from each row to the next."""
-    return [(a, b) for upper, lower in zip(rows, rows[1:]) for a in upper for b in lower if b in named[a]]
+def text(x, y, words, more=""):
+    return f'<text x="{x:g}" y="{y:g}"{more}>{words}</text>'
 
 
-def untangle(rows, arrows):
-    """Sorts each row by the middle of its neighbours in the row before, down and up again, so that few arrows cross."""
-    middle = {name: (at + 0.5) / len(row) for row in rows for at, name in enumerate(row)}
-    for _ in range(8):
-        for order, side in ((rows[1:], 0), (rows[-2::-1], 1)):
-            for row in order:
-                near = {name: [middle[it[side]] for it in arrows if it[1 - side] == name] for name in row}
-                row.sort(key=lambda name: sum(near[name]) / len(near[name]) if near[name] else middle[name])
-                middle.update({name: (at + 0.5) / len(row) for at, name in enumerate(row)})
+def draw_band(y, band):
+    """Returns the elements of a band, and its height."""
+    name, colour, note, names = band
+    parts = [names[:4], names[4:]] if name == "Programs" else [names]
+    rows = [row for part in parts for row in rows_of(part)]
+    height = HEAD + len(rows) * STEP
+    out = [f'<rect x="{MARGIN}" y="{y}" width="{WIDTH - 2 * MARGIN}" height="{height}" rx="6" fill="{colour}" stroke="#667"/>']
+    out += [text(18, y + 30, name, ' font-weight="bold"'), text(LEFT, y + height - 8, note, ' font-size="11" fill="#555"')]
+    for number, row in enumerate(rows):
+        top = y + BREAK + 2 + number * STEP
+        for crate, x, width in row:
+            out.append(f'<rect x="{x:g}" y="{top}" width="{width:g}" height="{BOX}" rx="4" fill="#fff" stroke="#889"/>')
+            out.append(text(x + width / 2, top + 19, crate, ' text-anchor="middle"'))
+    return out, height
 
 
-def draw(named):
-    rows = rows_of(named)
-    arrows = arrows_of(named, rows)
-    untangle(rows, arrows)
-    most = max(map(len, rows))
-    width = 2 * MARGIN + most * WIDTH + (most - 1) * GAP_X
-    height = 2 * MARGIN + len(rows) * HEIGHT + (len(rows) - 1) * GAP_Y
-    at = {}
-    for level, row in enumerate(rows):
-        left = (width - len(row) * WIDTH - (len(row) - 1) * GAP_X) / 2
-        top = MARGIN + level * (HEIGHT + GAP_Y)
-        for place, name in enumerate(row):
-            at[name] = (left + place * (WIDTH + GAP_X), top)
-    out = [
-        f'<svg xmlns="http://www.w3.org/2000/svg" viewBox="0 0 {width} {height}" width="{width}" height="{height}"'
-        ' font-family="sans-serif" font-size="14">',
-        '<defs><marker id="head" viewBox="0 0 8 8" refX="8" refY="4" markerWidth="7" markerHeight="7" orient="auto">'
-        '<path d="M0 0 L8 4 L0 8 z" fill="#667"/></marker></defs>',
-        f'<rect width="{width}" height="{height}" fill="#fff"/>',
-    ]
-    for a, b in arrows:
-        (x, y), (u, v) = at[a], at[b]
-        out.append(
-            f'<line x1="{x + WIDTH / 2:g}" y1="{y + HEIGHT:g}" x2="{u + WIDTH / 2:g}" y2="{v:g}" stroke="#667" marker-end="url(#head)"/>'
-        )
-    for name, (x, y) in at.items():
-        out.append(f'<rect x="{x:g}" y="{y:g}" width="{WIDTH}" height="{HEIGHT}" rx="5" fill="#eef" stroke="#447"/>')
-        out.append(f'<text x="{x + WIDTH / 2:g}" y="{y + HEIGHT / 2 + 5:g}" text-anchor="middle" fill="#224">{name}</text>')
-    out.append("</svg>")
-    return "\n".join(out) + "\n"
+def draw():
+    out, y = [], MARGIN
+    for at, band in enumerate(BANDS):
+        elements, height = draw_band(y, band)
+        out += elements
+        y += height
+        if at + 1 < len(BANDS):
+            out.append(f'<path d="M{WIDTH // 2} {y + 2} v{GAP - 5} m-4 -4 l4 4 l4 -4" stroke="#333" fill="none"/>')
+            y += GAP
+    y += MARGIN
+    head = f'<svg xmlns="http://www.w3.org/2000/svg" viewBox="0 0 {WIDTH} {y}" width="{WIDTH}" height="{y}" font-family="sans-serif" font-size="13">'
+    return "\n".join([head, f'<rect width="{WIDTH}" height="{y}" fill="#fff"/>', *out, "</svg>"]) + "\n"
 
 
-(TOP / "docs" / "crates.svg").write_text(draw(crates()))
+found = faults(crates())
+for fault in found:
+    print(f"docs/draw_crates.py: {fault}", file=sys.stderr)
+if not found:
+    (pathlib.Path(sys.argv[1]) if len(sys.argv) > 1 else TOP / "docs" / "crates.svg").write_text(draw())
+sys.exit(1 if found else 0)

@@ -1,14 +1,16 @@
 #!/usr/bin/env python3
-"""Draws docs/session.svg: a terminal in which the demo office is run, and its files are looked at.
+"""Draws docs/session.svg: a terminal in which the demo office is run, its files are looked at, and commands are typed.
 
     python3 docs/draw_session.py PROGRAMS [FILE]
 
-PROGRAMS is a folder with the built programs. Each command is run in a copy of demo/, and what it prints is drawn. FILE is
-docs/session.svg, if left out.
+PROGRAMS is a folder with the built programs. Each command is run in a copy of demo/, and what it prints is drawn. The commands that are
+typed, with their answers, are the first lines of the typed day that the manual shows, which docs/check compares with the programs. FILE
+is docs/session.svg, if left out.
 """
 
 import os
 import pathlib
+import re
 import shutil
 import subprocess
 import sys
@@ -20,9 +22,25 @@ COMMANDS = [
     "station_server --setup OFFICE.SET --out out --today 19870315",
     "grep -v '^\\*' LEDGER.PRG | paste - out/STATION1.TXT | expand -t 30 | head -n 8",
     "table_tool show MEMBERS.DBF --order BYNAME.NDX --from \"BAUER, D\" | head -n 3",
-    "table_tool check OFFICE.SET | tail -n 6",
 ]
+TYPED_DAY, TYPED_LINES = "Now type commands", 12
 SIZE, STEP, MARGIN, COLUMNS = 14, 20, 16, 104
+
+
+def colour_of(line):
+    """Returns the colour of a line that a program prints, or that is typed after a station's number."""
+    if re.match(r"\d+\. ", line):
+        return "#8fd18f"
+    return "#f0a0a0" if "REFUSED" in line else "#dde"
+
+
+def typed_day():
+    """Returns the first lines of the manual's typed day, after the command that starts it, each with its colour."""
+    lines = (TOP / "docs" / "MANUAL.md").read_text().splitlines()
+    begin = next(at for at, line in enumerate(lines) if line.startswith(TYPED_DAY))
+    command = [line.strip() for line in lines[:begin] if line.startswith("    station_prompt ")][-1]
+    shown = [line.strip() for line in lines[begin + 2 : begin + 2 + TYPED_LINES]]
+    return [("#8fd18f", f"$ {command}")] + [(colour_of(line), line) for line in shown]
 
 
 def session(programs):
@@ -37,8 +55,8 @@ def session(programs):
                 ["sh", "-c", command], cwd=f"{folder}/demo", env=env, stdout=subprocess.PIPE, stderr=subprocess.STDOUT, text=True, check=True
             )
             lines.append(("#8fd18f", f"$ {command}"))
-            lines += [("#f0a0a0" if "REFUSED" in line else "#dde", line.rstrip()) for line in ran.stdout.splitlines()]
-    return lines
+            lines += [(colour_of(line), line.rstrip()) for line in ran.stdout.splitlines()]
+    return lines + typed_day()
 
 
 def draw(lines):
