@@ -46,6 +46,6 @@ refused_count pairs = count_by (λ pair. is_refusal pair.answer) pairs
 abbrev pub count_text : ℕ → ℕ → List ℕ
 count_text refused all = decimal refused ++ (codes " of " ++ (decimal all ++ codes " refused\n"))
 
--- all pairs, or the refused ones and how many of how many there are
+-- the pairs as text: all, or the refused ones and how many of how many there are
 abbrev pub answers_text : Bool → List PairedLine → List ℕ
 answers_text refused_only pairs = flat_map (shown_text refused_only) pairs ++ (if refused_only then count_text (refused_count pairs) (length pairs) else [])

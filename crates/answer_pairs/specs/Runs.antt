@@ -31,7 +31,7 @@ pub record AreAnswersTo (script answers : List ℕ) (asked : List AskedLine) (te
 abbrev pub ArePairedSo : List ℕ → List ℕ → List AskedLine → List (List ℕ) → Type 0
 ArePairedSo script answers asked texts = ArePairs script answers (paired asked (map answer_lines_in texts))
 
--- so it is of all answers that may be those to the script
+-- each line is paired with its own answer, whatever the answers are that may be those to the script
 abbrev pub PairsOwnAnswers : List ℕ → List ℕ → Type 0
 PairsOwnAnswers script answers =
     (asked : List AskedLine) (texts : List (List ℕ)) → AreAnswersTo script answers asked texts → ArePairedSo script answers asked texts
@@ -40,7 +40,7 @@ PairsOwnAnswers script answers =
 abbrev pub HaveOneLine : List (List ℕ) → Type 0
 HaveOneLine texts = AllByRecursion (λ text. has_no_lf text ≡ true) texts
 
--- then there is no other way to pair them
+-- where each answer is one line, there is no other way to pair them
 abbrev pub PairsOneLineAnswers : List ℕ → List ℕ → Type 0
 PairsOneLineAnswers script answers =
     (asked : List AskedLine) (texts : List (List ℕ)) → AreAnswersTo script answers asked texts → HaveOneLine texts

@@ -16,7 +16,7 @@ both More other = More
 abbrev pub where_so : Bool → Ways → Ways
 where_so so ways = if so then ways else No
 
--- Lines as answers of these kinds: the first line is all of the first answer, or more lines of it stand after it.
+-- In how many ways lines are answers of these kinds: the first line is all of the first answer, or more lines of it stand after it.
 abbrev pub ways : List AnswerKind → List (List ℕ) → Ways
 ways [] [] = One
 ways [] (line ∷ lines) = No

@@ -22,8 +22,8 @@ use Rattle.audit.specs.declared.fault.Difference.{Difference}
 abbrev pub AreOfLines : List Entry → Type 0
 AreOfLines entries = AllByRecursion (λ e. IsOfALine e.command) entries
 
--- The text is the journal of a legal history on the opened tables: each entry is of one of the stations, its command is
--- one that a line of a script means, and its answer is the one that the command has at its place.
+-- The text is the lines of entries of a legal history on the opened tables: each entry is of one of the stations, its command is
+-- one that a line of a script means, so no LF stands in its line, and its answer is the one that the command has at its place.
 pub record IsJournalOf (opened : Opened) (text : List ℕ) (journal : List Entry) : Type 0 where
   pub text_is : text ≡ journal_text journal
   pub legal : IsLegal opened journal
@@ -113,7 +113,7 @@ abbrev pub Continues : History → List ℕ → History → List ℕ → Type 0
 Continues h text next rest =
     (e : Entry) (es : List Entry) → IsContinuedBy h text (e ∷ es) → IsContinuedBy next rest es
 
--- the command of the entry whose line is first has another answer
+-- the command of the entry whose line is first has another answer at its place
 pub record IsDifferenceAt (h : History) (text : List ℕ) (d : Difference) : Type 0 where
   pub command : Command
   pub rest : List ℕ

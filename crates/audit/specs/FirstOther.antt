@@ -35,13 +35,13 @@ pub record CanBeAudited (opened : Opened) (entries : List Entry) : Type 0 where
   pub stations : opened.stations < 2 ^ 64
   pub long : length (journal_text entries) < 2 ^ 64
 
--- an audit that fails of the text of such entries says just this, or that memory was refused
+-- an audit of the text of such entries that fails says just this, or that memory was refused
 abbrev pub NamesFirstOther : Opened → List Entry → Difference → Type 0
 NamesFirstOther opened entries d =
     CanBeAudited opened entries → IsFirstOther opened entries d → (fault : AuditFault) → IsAuditFault opened (journal_text entries) fault
     → (fault ≡ NoMemory) ⊎ (fault ≡ Differs d)
 
--- and none says that all hold
+-- no audit of the text of such entries says that all hold
 abbrev pub FailsAtFirstOther : Opened → List Entry → Difference → Type 0
 FailsAtFirstOther opened entries d =
     CanBeAudited opened entries → IsFirstOther opened entries d → (journal : List Entry) → ¬ IsJournalOf opened (journal_text entries) journal

@@ -21,15 +21,15 @@ use Rattle.audit_program.specs.Writing.{IsUnwritten, IsWrittenBy}
 
 -- ---- the command line
 
--- an option that wants another one
+-- an option that needs another one, as it is declared
 abbrev pub wanting_rule : Text → Rule
 wanting_rule name = record (option_rule name) { is_free = false }
 
--- the program with the paths that have to be given
+-- the program with those of its options that have to be given
 abbrev pub paths_app : App
 paths_app = with_rule (with_rule (program_app (codes "station_audit")) (required_rule (codes "setup"))) (required_rule (codes "journal"))
 
--- the program and all its options
+-- the program and all its options, as they are declared to `clap`
 abbrev pub audit_app : App
 audit_app = with_rule (with_rule (with_rule paths_app (wanting_rule (codes "out"))) (wanting_rule (codes "today"))) (flag_rule (codes "reindex"))
 

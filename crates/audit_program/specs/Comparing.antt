@@ -9,11 +9,11 @@ pub record AreLinesOf (word lines : List ℕ) (sums : List FileSum) : Type 0 whe
   pub are : AllByRecursion IsSum sums
   pub is : lines ≡ sums_and word sums []
 
--- whatever files have these lines, it holds of them
+-- of any files that have these lines, this is so
 abbrev pub IfLinesOf : List ℕ → List ℕ → (List FileSum → Type 0) → Type 0
 IfLinesOf word lines holds = (sums : List FileSum) → AreLinesOf word lines sums → holds sums
 
--- as many bytes, with the same digest
+-- two files are as long, with the same digest
 abbrev pub same_content : FileSum → FileSum → Bool
 same_content told file = (told.length == file.length) && bytes_eq told.digest file.digest
 
@@ -25,16 +25,16 @@ first_other [] (file ∷ files) = Some file.path
 first_other (told ∷ more) [] = Some told.path
 first_other (told ∷ more) (file ∷ files) = if same_content told file then first_other more files else Some file.path
 
--- the same name and the same content
+-- two files have the same name and the same content
 abbrev pub same_file : FileSum → FileSum → Bool
 same_file told file = bytes_eq told.path file.path && same_content told file
 
--- it is one of the files that the journal tells
+-- a file is one of those that the journal tells
 abbrev pub is_of_run : List FileSum → FileSum → Bool
 is_of_run [] file = false
 is_of_run (told ∷ more) file = same_file told file || is_of_run more file
 
--- each of the files is
+-- each of some files is one of those that the journal tells
 abbrev pub are_of_run : List FileSum → List FileSum → Bool
 are_of_run wrote [] = true
 are_of_run wrote (file ∷ files) = is_of_run wrote file && are_of_run wrote files

@@ -19,7 +19,7 @@ use Rattle.audit_program.specs.Comparing.{IfLinesOf, are_of_run, is_of_run}
 
 -- ---- the exit status
 
--- of a failure: as the server's, 5 where an entry does not hold, and 6 where the journal is none, or that of another run
+-- of a failure the exit status: as the server's, 5 if an entry does not hold, and 6 if the journal is none, or that of another run
 abbrev pub status : AuditFailure → ℕ
 status (failure.Serve why) = fault_status why
 status failure.Unread = 2
@@ -74,6 +74,7 @@ abbrev pub reindex_reason : Bool → List ℕ
 reindex_reason true = codes "the run was with --reindex"
 reindex_reason false = codes "the run was without --reindex"
 
+-- of a failure what is said
 abbrev pub reason : AuditFailure → List ℕ
 reason (failure.Serve why) = fault_reason why
 reason failure.Unread = codes "cannot read the journal"
@@ -109,6 +110,6 @@ abbrev pub audited_text : List FileSum → Audited → List ℕ
 audited_text wrote audited =
     flat_map read_line audited.read.items ++ (count_line audited.count ++ flat_map (written_line wrote) audited.written.items)
 
--- standard output has got this text
+-- standard output has got what is said if all entries hold
 abbrev pub AppendsAudited : Audited → Option (List ℕ) → Option (List ℕ) → Type 0
 AppendsAudited audited old new = IfLinesOf wrote_word audited.wrote (λ wrote. Appends old new (audited_text wrote audited))

@@ -38,7 +38,7 @@ OpensAsAnAudit files setup =
     (reindex : Bool) (today : Day) (written : List NamedFile) (counts : CommandCounts) (served : IsServed files setup reindex today true written counts)
     → IsOpenedBy files setup reindex served.run.history.opened
 
--- The journal's file of a run has a journal's whole text.
+-- the last file of a run whose journal is written has a journal's whole text
 abbrev pub WritesAWholeText : Option (List NamedFile) → List ℕ → Type 0
 WritesAWholeText files setup =
     (reindex : Bool) (today : Day) (written : List NamedFile) (counts : CommandCounts) (served : IsServed files setup reindex today true written counts)
@@ -69,8 +69,8 @@ IsRefutation (OtherFile path) = Unit {0}
 IsRefutation (Audit why) = Unit {0}
 IsRefutation why = ⊥
 
--- The program, where it is given the journal's file of the run and the files of the run as they were, among others, and the run's
--- options, never says so.
+-- The program, if it is given the journal's file of the run and the files of the run as they were, among others, and the run's
+-- options, never says that an entry does not hold, nor that the journal is none, is cut or is another run's.
 abbrev pub NeverRefutes : List NamedFile → List NamedFile → Options → Type 0
 NeverRefutes files later options =
     (today : Day) (written : List NamedFile) (counts : CommandCounts) (served : IsServed (Some files) options.setup.now options.reindex today true written counts)
@@ -84,7 +84,8 @@ IsOfMemoryOrLoads files before after (Serve (serve.File path file.CannotRead)) =
 IsOfMemoryOrLoads files before after Unread = Rises before after
 IsOfMemoryOrLoads files before after why = ⊥
 
--- Over the same files, with the run's options, nothing else makes it fail.
+-- Over the run's files, with the run's options, the program fails for nothing but memory that was refused, or a file that can't be
+-- read.
 abbrev pub FailsForLoadsAlone : List NamedFile → List NamedFile → Options → Type 0
 FailsForLoadsAlone files later options =
     (today : Day) (written : List NamedFile) (counts : CommandCounts)
@@ -93,8 +94,8 @@ FailsForLoadsAlone files later options =
     → (before after : Option ℕ) (why : AuditFailure) → IsFailedBy (Some later) options why → IsLoadFailure (Some later) options before after why
     → IsOfMemoryOrLoads (Some later) before after why
 
--- The files that it writes then on the run's day are the run's, where the stations and the bytes of the entries' lines are counted by
--- numbers of 64 bits.
+-- The files that it writes then with the run's date are the run's, where the stations and the bytes of the entries' lines are
+-- counted by numbers of 64 bits.
 abbrev pub WritesTheSame : List NamedFile → List NamedFile → Options → Type 0
 WritesTheSame files later options =
     (today : Day) (written : List NamedFile) (counts : CommandCounts) (served : IsServed (Some files) options.setup.now options.reindex today true written counts)
@@ -119,7 +120,7 @@ NamesTheFirst files options =
     → TellsEntriesOf files options.journal.now entries → CanBeAudited opened entries → IsFirstOther opened entries d
     → (why : AuditFault) → IsFailedBy (Some files) options (Audit why) → why ≡ Differs d
 
--- And it never says that all hold.
+-- And the program never says that all hold.
 abbrev pub NeverPasses : List NamedFile → Options → Type 0
 NeverPasses files options =
     (opened : Opened) (entries : List Entry) (d : Difference) → IsOpenedBy (Some files) options.setup.now options.reindex opened

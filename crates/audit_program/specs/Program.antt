@@ -24,19 +24,19 @@ use Rattle.audit_program.specs.Comparing.{AreLinesOf, first_other}
 
 -- ---- the journal
 
--- the file of this path has the whole text of a journal, which tells this
+-- the file of this path has the whole text of a journal, which says this
 pub record IsJournalIn (files : Option (List NamedFile)) (path : List ℕ) (journal : WholeJournal) : Type 0 where
   pub text : List ℕ
   pub found : IsFileOf files path text
   pub whole : CanBeTold journal
   pub text_is : text ≡ whole_text journal
 
--- it has the whole text of none, and begins as one or not
+-- the file of a path has the whole text of no journal, and begins as one or not
 abbrev pub IsNoJournalIn : Option (List NamedFile) → List ℕ → Bool → Type 0
 IsNoJournalIn files path begun = (text : List ℕ) × IsFileOf files path text × IsNotWhole text × (begins_as_journal text ≡ begun)
 
--- The journal is that of a run with these options, which read the files that the setup names: of these is noted what the journal
--- tells of them.
+-- The journal is that of a run with the command line's options, which read the files that the setup names: of these is noted what
+-- the journal tells of them.
 pub record IsOfRun (files : Option (List NamedFile)) (options : Options) (journal : WholeJournal) (read : List FileSum) : Type 0 where
   pub in_file : IsJournalIn files options.journal.now journal
   pub reindex : journal.reindex ≡ options.reindex
@@ -66,8 +66,8 @@ pub record IsAuditedBy (files : Option (List NamedFile)) (options : Options) (au
   pub all : IsAuditedTo files options history audited
   pub unwritten : audited.written.items ≡ []
 
--- an entry does not hold: the journal's lines of entries are those of no legal history on the tables, and up to this fault they
--- are those of one
+-- An entry does not hold: the journal's lines of entries are those of no legal history on these tables, and up to the fault they
+-- are those of one.
 pub record IsRefuted (files : Option (List NamedFile)) (options : Options) (why : AuditFault) : Type 0 where
   pub opened : Opened
   pub journal : WholeJournal

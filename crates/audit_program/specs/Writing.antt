@@ -38,7 +38,7 @@ IsCutAudit files options today old new (Serve (serve.Close (Write name))) =
     (h : History) × (audited : Audited) × IsAuditedTo files options h audited × IsCutTables h today old new (serve.Close (Write name))
 IsCutAudit files options today old new why = Unit {0}
 
--- the folder has not taken a file of the tables
+-- the folder has not taken one of the files of the tables
 abbrev pub says_unwritten : AuditFailure → Bool
 says_unwritten (Serve (serve.Close (Write name))) = true
 says_unwritten why = false

@@ -12,7 +12,7 @@ pub record Wanted : Type 0 where
   pub put : List ℕ
   pub failures : Option ℕ
 
--- and these bytes too
+-- what was wanted, and these bytes put into the writer too
 abbrev pub more : Wanted → List ℕ → Wanted
 more w bytes = record { begun = w.begun; put = w.put ++ bytes; failures = w.failures }
 
@@ -20,8 +20,8 @@ more w bytes = record { begun = w.begun; put = w.put ++ bytes; failures = w.fail
 abbrev pub due : Wanted → Option (List ℕ)
 due w = grown w.begun w.put
 
--- Where a writer stands. Its sink has still what it had at first. What it has, and what waits, is all that
--- was wanted; or it has failed, and has a front part of it.
+-- Where a writer stands. Its sink has still what it had at first. What the sink has and what waits is all that was put into the
+-- writer; or the sink has failed, and has a front part of it.
 abbrev pub Stands : Bool → Option (List ℕ) → Option ℕ → List ℕ → Wanted → Type 0
 Stands false written failures waiting w = IsFront w.begun written × ((grown written waiting ≡ due w) × (failures ≡ w.failures))
 Stands true written failures waiting w = IsFront w.begun written × (IsFront written (due w) × Rises w.failures failures)

@@ -59,7 +59,8 @@ abbrev pub Reading : List Field → List ℕ → (ExprFault → OpenFault) → R
 Reading fields text bad (Ok e) = (e.text ≡ text) × (e.fields ≡ fields) × IsKeyText fields text e.expr
 Reading fields text bad (Err fault) = ((fault ≡ NoMemory) × (length text ≤ MAX_EXPRESSION_BYTES)) ⊎ ((why : ExprFault) × (why ≢ NoRoom) × IsFault why fields text × (fault ≡ bad why))
 
--- the file's keys are as long as the expression's, and its pairs are those of the table's records, each as often
+-- An index file is of the table as it is: its keys are as long as the expression's, and its pairs are those of the table's records,
+-- each as often.
 pub record IsFresh (table : Table) (e : Expression) (file : NdxFile) : Type 0 where
   pub long : file.key_len ≡ key_length e.fields e.expr
   pub pairs : IsPermutation (pairs_of table e.expr) file.pairs.pairs
@@ -134,7 +135,8 @@ count_tests tables stations =
     ∷ (nat_le tables MAX_TABLES, TooManyTables)
     ∷ []
 
--- the tables as they are opened: first the counts, then table by table, and the indexes of each
+-- What comes of opening, by the tests in their order: first the counts, then table by table, and the indexes of each; the tables
+-- with their indexes if all pass, or the fault of the first that fails.
 abbrev pub Opening : Bool → ℕ → List TableSource → Result (List NamedTable) OpenFault → Type 0
 Opening reindex stations sources outcome = Passing (count_tests (length sources) stations) (TablesOpening reindex [] sources) outcome
 

@@ -72,15 +72,16 @@ abbrev pub outcome_of : State → ℕ → Result Plan Refusal → Outcome
 outcome_of s station (Ok plan) = Ok (planned s station plan)
 outcome_of s station (Err refusal) = Err refusal
 
--- a fault is the refusal of the outcome, and want of memory comes only where the first tests pass
+-- a fault is the refusal of the outcome, and out of memory comes only where the first tests pass
 abbrev pub IsFaultAfter : {X Y : Type 0} → TableFault → Result X Refusal → Result Y Refusal → Type 0
 IsFaultAfter (Refused refusal) first outcome = outcome ≡ Err refusal
 IsFaultAfter NoMemory first outcome = IsOk first
 
--- a fault of the plan of a command, and of an INDEX ON of a text and a name
+-- a fault of the plan of a command
 abbrev pub IsPlanFault : State → ℕ → Command → TableFault → Type 0
 IsPlanFault s station command fault = IsFaultAfter fault (early_outcome s station command) (outcome s station command)
 
+-- a fault of the plan of an INDEX ON of a text and a name
 abbrev pub IsIndexOnFault : State → ℕ → List ℕ → List ℕ → TableFault → Type 0
 IsIndexOnFault s station text name fault = IsFaultAfter fault (index_early s station text name) (index_on s station text name)
 

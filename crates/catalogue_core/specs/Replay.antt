@@ -48,27 +48,29 @@ abbrev pub after : State → List Entry → State
 after s [] = s
 after s (e ∷ es) = after (step s e.station e.command).0 es
 
+-- the state after a journal's commands, from opening on
 abbrev pub replay : Opened → List Entry → State
 replay opened journal = after (start opened) journal
 
--- each stored answer is the one that its command has at its place
+-- each stored answer is the one that `step` gives at its place, from a state on
 abbrev pub LegalFrom : State → List Entry → Type 0
 LegalFrom s [] = Unit {0}
 LegalFrom s (e ∷ es) = (e.answer ≡ (step s e.station e.command).1) × LegalFrom (step s e.station e.command).0 es
 
+-- each stored answer of a journal is the one that `step` gives at its place, from opening on
 abbrev pub IsLegal : Opened → List Entry → Type 0
 IsLegal opened journal = LegalFrom (start opened) journal
 
--- the entry is of one of the stations
+-- the entry is of one of the stations that the tables were opened for
 abbrev pub IsOfStation : Opened → Entry → Type 0
 IsOfStation opened e = (1 ≤ e.station) × (e.station ≤ opened.stations)
 
--- so is each entry of the journal
+-- each entry of the journal is of one of the stations
 abbrev pub AreOfStations : Opened → List Entry → Type 0
 AreOfStations opened journal = AllByRecursion (IsOfStation opened) journal
 
--- a history of these opened tables, with at least this many entries: each entry is of one of the stations, and each
--- answer is the one that its command has at its place
+-- a legal history of these opened tables, with at least this many entries: each entry is of one of the stations, and each answer is
+-- the one that its command has at its place
 pub record IsHistoryOf (opened : Opened) (least : ℕ) (h : History) : Type 0 where
   pub named : h.opened ≡ opened
   pub legal : IsLegal h.opened h.journal

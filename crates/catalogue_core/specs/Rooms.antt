@@ -11,7 +11,7 @@ pub record WithRoom : Type 0 where
   pub locks : Locked
   pub stations : List Station
 
--- the state, without the room
+-- the state without its tables' room
 abbrev pub seen : WithRoom → State
 seen w = record { names = w.names; tables = map (λ t. t.content) w.tables; locks = w.locks; stations = w.stations }
 

@@ -52,7 +52,7 @@ LocksRecord at (RecordLocks numbers) number = IsListed numbers number
 LocksRecord at FileLock number = Unit {0}
 LocksRecord at command number = ⊥
 
--- A station that is answered .T. has locked the records that it asked for.
+-- What a lock is for. A station that is answered .T. has locked the records that it asked for.
 abbrev pub TakesTheLock : State → ℕ → Command → Type 0
 TakesTheLock s station command =
     (area : Area) (number : ℕ) → area_of s station ≡ Some area → LocksRecord area.cursor.at command number
@@ -64,7 +64,7 @@ LeavesTheRecord s other command =
     (station table number : ℕ) (row : Row) → other ≢ station → HasRecordLocked s station table number → record_at s table number ≡ Some row
     → record_at (step s other command).0 table number ≡ Some row
 
--- And so does its lock.
+-- A lock that a station has on a record stays in a step of another.
 abbrev pub LeavesTheLock : State → ℕ → Command → Type 0
 LeavesTheLock s other command =
     (station table number : ℕ) → other ≢ station → HasRecordLocked s station table number → HasRecordLocked (step s other command).0 station table number

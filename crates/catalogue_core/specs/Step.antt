@@ -178,7 +178,7 @@ reply Reccount content cursor = Number (record_count content)
 abbrev pub ask : State → ℕ → Question → Outcome
 ask s station question = found (area_of s station) NoTableInUse (λ area. Ok (s, reply question (table_of s area) area.cursor))
 
--- the state and the answer that a station's command leads to, or its refusal
+-- what a station's command leads to: a new state and an answer, or the first refusal in its order
 abbrev pub outcome : State → ℕ → Command → Outcome
 outcome s station (Select number) = select s station number
 outcome s station (UseTable name exclusive) = use_table s station name exclusive
@@ -216,6 +216,6 @@ abbrev pub settled : State → Outcome → State × Answer
 settled s (Ok end) = end
 settled s (Err refusal) = (s, Refused refusal)
 
--- the state and the answer after a station's command
+-- the state and the answer after a station's command: those of the outcome, or the old state with the refusal
 abbrev pub step : State → ℕ → Command → State × Answer
 step s station command = settled s (outcome s station command)

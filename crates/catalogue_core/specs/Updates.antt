@@ -99,7 +99,7 @@ KeepsTheLast opened before e later =
     → IfSome (number_at_end (replay opened (before ++ e ∷ [])) later table number) (λ n.
     cell_now (replay opened (before ++ e ∷ later)) table n field ≡ Some cell)
 
--- And a cell into which no entry put another is at the end what it was at some moment.
+-- A cell into which no entry put another is at the end what it was at some moment.
 abbrev pub KeepsWhatWas : Opened → List Entry → List Entry → Type 0
 KeepsWhatWas opened before later =
     (table number field : ℕ) (cell : List ℕ) → IsLegalHistory opened (before ++ later) → 1 ≤ table → 1 ≤ number
@@ -107,7 +107,7 @@ KeepsWhatWas opened before later =
     → IfSome (number_at_end (replay opened before) later table number) (λ n.
     cell_now (replay opened (before ++ later)) table n field ≡ Some cell)
 
--- And a record that was not marked at some moment, and that no entry marked as deleted since, has not gone.
+-- A record that was not marked at some moment, and that no entry marked as deleted since, has not gone.
 abbrev pub StaysUntilDeleted : Opened → List Entry → List Entry → Type 0
 StaysUntilDeleted opened before later =
     (table number : ℕ) (row : Row) → IsLegalHistory opened (before ++ later) → 1 ≤ table → 1 ≤ number

@@ -21,7 +21,7 @@ number_or_fault None = Err NumberTooWide
 abbrev pub IsNumberRefusal : CellFault → ℕ → ℕ → ℤ → ℕ → Type 0
 IsNumberRefusal fault width decimals digits scale = (fault ≡ NoMemory) ⊎ ((fault ≡ NumberTooWide) × (number_cell width decimals digits scale ≡ None))
 
--- The cell that keeps a value, or why there is none. A field of a memo keeps none.
+-- The cell that keeps a value, or why there is none, by the field's kind. A field of a memo keeps none.
 abbrev pub stored : Field → Literal → Result (List ℕ) CellFault
 stored field (Text text) = if field.kind == CHARACTER then Ok (padded field.width text) else Err TypeMismatch
 stored field (Number digits scale) = if field.kind == NUMBER then number_or_fault (number_cell field.width field.decimals digits scale) else Err TypeMismatch

@@ -32,7 +32,7 @@ is_date cell = (length cell == DATE_WIDTH) && (list_all is_ascii_digit cell && i
 abbrev pub blank_date : List ℕ
 blank_date = replicate DATE_WIDTH BLANK
 
--- a date as four digits of the year, two of the month and two of the day
+-- the eight digits that are written of a date: four of the year, two of the month and two of the day
 unfoldable pub date_text : ℕ → ℕ → ℕ → List ℕ
 date_text year month day = last_digits 4 year ++ (last_digits 2 month ++ last_digits 2 day)
 
@@ -43,7 +43,7 @@ pub record SaysDay (cell : List ℕ) (day : Day) : Type 0 where
   pub month : month_in cell ≡ day.month
   pub day_of_month : day_in cell ≡ day.day
 
--- what a cell says: eight blanks no day, eight digits that are a date that day, and every other cell neither
+-- what a cell of a date says: eight blanks no day, eight digits that are a date that day, and every other cell neither
 abbrev pub IsDateCell : List ℕ → DateCell → Type 0
 IsDateCell cell Blank = cell ≡ blank_date
 IsDateCell cell Odd = (cell ≢ blank_date) × (is_date cell ≡ false)

@@ -4,7 +4,7 @@ use Rattle.dbf_fields.specs.declared.field.Field.{Field}
 use Rattle.dbf_fields.specs.Field.{widths}
 use Rattle.dbf_fields.specs.Schema.{IsSchema}
 
--- the cells that the bytes are
+-- the cells of a record, by its bytes
 abbrev pub cells_of : List Field → List ℕ → List (List ℕ)
 cells_of [] bytes = []
 cells_of (f ∷ fs) bytes = take f.width bytes ∷ cells_of fs (drop f.width bytes)

@@ -10,7 +10,7 @@ abbrev pub without_leading : List ℕ → List ℕ
 without_leading [] = []
 without_leading (b ∷ bs) = if b == BLANK then without_leading bs else b ∷ bs
 
--- what is left between the blanks at both ends
+-- a text without the blanks at both ends
 unfoldable pub trimmed : List ℕ → List ℕ
 trimmed bs = reverse (without_leading (reverse (without_leading bs)))
 
@@ -43,6 +43,6 @@ signed (b ∷ bs) decimals =
     if b == MINUS then option_map (λ n. neg_ℤ (pos n)) (magnitude bs decimals)
     else (if b == PLUS then option_map pos (magnitude bs decimals) else option_map pos (magnitude (b ∷ bs) decimals))
 
--- the number in a cell, times ten for each decimal
+-- the number in a cell, times ten for each decimal, by how its text splits: blanks, sign, digits, point, digits, blanks
 unfoldable pub number : List ℕ → ℕ → Option ℤ
 number cell decimals = signed (trimmed cell) decimals

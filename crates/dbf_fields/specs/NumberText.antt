@@ -34,7 +34,7 @@ is_exact digits scale decimals = list_all (λ b. b == ZERO_DIGIT) (drop decimals
 abbrev pub right_justified : ℕ → List ℕ → List ℕ
 right_justified width text = replicate (width - length text) BLANK ++ text
 
--- the cell of a number, where one of that width and number of decimals keeps it whole
+-- the one cell of that width and number of decimals that is written of a number; none if the number would be rounded or is too wide
 unfoldable pub number_cell : ℕ → ℕ → ℤ → ℕ → Option (List ℕ)
 number_cell width decimals digits scale =
     if is_exact digits scale decimals && nat_le (length (number_text digits scale decimals)) width

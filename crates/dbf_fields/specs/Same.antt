@@ -18,7 +18,7 @@ use Rattle.dbf_fields.specs.declared.literal.Literal.TheVariants.{Text, Number, 
 abbrev pub same_date : Day → Day → Bool
 same_date a b = (a.year == b.year) && ((a.month == b.month) && (a.day == b.day))
 
--- the values are of one kind and keep the same
+-- when `==` calls two values the same: they are of one kind and keep the same
 unfoldable pub same_literal : Literal → Literal → Bool
 same_literal (Text a) (Text b) = bytes_eq a b
 same_literal (Number a scale) (Number b other) = int_eq a b && (scale == other)

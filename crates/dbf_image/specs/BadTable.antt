@@ -54,7 +54,7 @@ records_memos_tests dbt number fields [] = []
 records_memos_tests dbt number fields (bytes ∷ more) =
     record_memos_tests dbt number 1 fields (drop 1 bytes) ++ records_memos_tests dbt (number + 1) fields more
 
--- and of all memos of a table, whose file of memos is there where some field is one
+-- the tests of all memos of a table, whose file of memos is there where some field is one
 unfoldable pub table_memos_tests : Option (List ℕ) → List Field → List (List ℕ) → List (Bool × BadTable)
 table_memos_tests dbt fields records =
     (not (has_memos fields) || is_some dbt, bad_in parts.Header MemoFileMissing)

@@ -53,7 +53,7 @@ cells_memos [] cells = []
 cells_memos (f ∷ fs) [] = []
 cells_memos (f ∷ fs) (c ∷ cs) = cell_memo f c ++ cells_memos fs cs
 
--- and of all records
+-- how many blocks the memos of all records take
 abbrev pub rows_blocks : List Field → List Row → ℕ
 rows_blocks fields [] = 0
 rows_blocks fields (r ∷ rs) = cells_blocks fields r.cells + rows_blocks fields rs
@@ -74,7 +74,7 @@ HasTooManyBlocks table = MAX_BLOCK_NUMBER < next_free table
 abbrev pub memo_header : ℕ → List ℕ
 memo_header next = little_bytes 4 next ++ (replicate 12 0 ++ (VERSION ∷ replicate (BLOCK - 17) 0))
 
--- the file of a table's memos
+-- the one file that is written of a table's memos
 abbrev pub memo_image : Table → List ℕ
 memo_image table = memo_header (next_free table) ++ rows_memos table.schema table.rows
 

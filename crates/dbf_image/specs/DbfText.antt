@@ -53,7 +53,10 @@ pub record AreRecords (fields : List Field) (count : ℕ) (bytes : List ℕ) : T
   pub whole : length bytes ≡ count * (1 + widths fields)
   pub count_bounded : count ≤ MAX_RECORDS
 
--- the bytes are a file of the table, with a file of its memos beside it where some field is a memo
+-- The bytes are a file of the table, with a file of its memos beside it where some field is a memo: a relation on the whole text,
+-- with the header's numbers, the list of descriptors up to the first 0x0D, and the records at their offsets. It shares the layout's
+-- words with the reader's tests, and none of the tests. That both say the same of all bytes is proved (proofs/DbfLaws.antt), and so
+-- is that `image` with `memo_image` is in the relation (proofs/FileLaws.antt).
 pub record IsDbf (bytes : List ℕ) (dbt : Option (List ℕ)) (table : Table) : Type 0 where
   pub long : HEADER ≤ length bytes
   pub version : (slice_index bytes 0 ≡ VERSION) ⊎ (slice_index bytes 0 ≡ VERSION_WITH_MEMOS)

@@ -3,7 +3,7 @@ use Rattle.std.specs.Prelude.{ℕ, List, codes}
 use Rattle.dbf_image.specs.declared.fault.ImageFault.{ImageFault}
 use Rattle.dbf_image.specs.declared.fault.ImageFault.TheVariants as fault
 
--- the name of its variant, without what it carries
+-- the name of a fault, without a number that it carries
 abbrev pub image_name : ImageFault → List ℕ
 image_name fault.Truncated = codes "Truncated"
 image_name fault.BadVersion = codes "BadVersion"

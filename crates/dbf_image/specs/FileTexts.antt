@@ -14,11 +14,11 @@ no_file_text = record { start = 0; length = 0; kept = false }
 abbrev pub file_text_at : List FileText → ℕ → FileText
 file_text_at ts i = slice_index_or ts i no_file_text
 
--- the bytes of a text of a file,
+-- the bytes of a text of a file: those of a part of the file
 abbrev pub file_bytes : List ℕ → FileText → List ℕ
 file_bytes file t = take t.length (drop t.start file)
 
--- of which there are some; a text of none was dropped
+-- the text in a part of a file; a part without bytes is that of a text that was dropped, and has none
 abbrev pub file_text : List ℕ → FileText → Option (List ℕ)
 file_text file t = if t.length == 0 then None else Some (file_bytes file t)
 
@@ -28,7 +28,7 @@ with_file_texts file n [] texts = texts
 with_file_texts file n (t ∷ ts) texts =
     if t.length == 0 then with_file_texts file (suc n) ts texts else map.insert (with_file_texts file (suc n) ts texts) n (file_bytes file t)
 
--- those of a file alone
+-- the texts of a file, under the numbers from one on
 abbrev pub file_texts : List ℕ → List FileText → Texts
 file_texts file ts = with_file_texts file FILE_TEXTS ts map.empty
 
@@ -36,7 +36,7 @@ file_texts file ts = with_file_texts file FILE_TEXTS ts map.empty
 abbrev pub IsInFile : List ℕ → FileText → Type 0
 IsInFile file t = t.start + t.length ≤ length file
 
--- how many blocks the texts would take
+-- how many blocks the texts of a file would take
 abbrev pub blocks_of_file : List FileText → ℕ
 blocks_of_file ts = sum_by (λ t. blocks_in t.length) ts
 
@@ -69,7 +69,7 @@ pub record DropsTexts (n : ℕ) (old new : List FileText) : Type 0 where
   pub lengths : (i : ℕ) → i < n → (file_text_at new i).length ≡ length_kept (file_text_at old i).kept (file_text_at old i).length
   pub later : (i : ℕ) → n ≤ i → file_text_at new i ≡ file_text_at old i
 
--- the texts stay that have one of the numbers
+-- the texts of a file stay that have one of the numbers
 pub record KeepsTexts (old new : List FileText) (numbers : List ℕ) : Type 0 where
   pub same_length : length new ≡ length old
   pub starts : (i : ℕ) → (file_text_at new i).start ≡ (file_text_at old i).start

@@ -8,8 +8,8 @@ use Rattle.dbf_image.specs.MemoStore.{blocks_of_all}
 use Rattle.dbf_image.specs.Table.{Row, Table}
 use Rattle.dbf_image.specs.Store.{row_with}
 
--- the table, whether one more record has room, how many bytes of memos have room, without memory being taken, and how
--- many blocks hold texts of memos, of which some may be those of texts that were replaced
+-- A table with the room that is left for changes: whether one more record has room, how many bytes of memos have room, without
+-- memory being taken, and how many blocks hold texts of memos, of which some may be those of texts that were replaced.
 pub record Growing : Type 0 where
   pub table : Table
   pub record_room : Bool

@@ -33,11 +33,11 @@ abbrev pub rows_bytes : ℕ → List Field → List Row → List (List ℕ)
 rows_bytes next fields [] = []
 rows_bytes next fields (r ∷ rs) = row_bytes next fields r ∷ rows_bytes (next + cells_blocks fields r.cells) fields rs
 
--- the bytes of all records, with memos from block 1 on
+-- the bytes of a table's records, with memos from block 1 on
 abbrev pub records_bytes : List Field → List Row → List ℕ
 records_bytes fields rows = flat_map (λ bytes. bytes) (rows_bytes 1 fields rows)
 
--- the text of a table, dated: header, descriptors, 0x0D, records, 0x1A
+-- the one file that is written of a table, dated: header, descriptors, 0x0D, records, 0x1A
 abbrev pub image : Table → ℕ → ℕ → ℕ → List ℕ
 image table year month day =
     header_bytes table year month day ++ (flat_map descriptor table.schema ++ (HEADER_END ∷ (records_bytes table.schema table.rows ++ END_OF_FILE ∷ [])))

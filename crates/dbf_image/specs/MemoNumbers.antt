@@ -25,15 +25,15 @@ abbrev pub cells_texts : List ℕ → List Field → List ℕ → List (List ℕ
 cells_texts dbt [] bytes = []
 cells_texts dbt (f ∷ fs) bytes = cell_texts dbt f (take f.width bytes) ++ cells_texts dbt fs (drop f.width bytes)
 
--- and of a record
+-- the texts that a record's memo cells tell
 abbrev pub row_texts : List ℕ → List Field → List ℕ → List (List ℕ)
 row_texts dbt fields bytes = cells_texts dbt fields (drop 1 bytes)
 
--- the texts that were read, by their numbers
+-- the texts that were read of a memo file, by their numbers
 abbrev pub read_texts : List ℕ → ReadMemos → Texts
 read_texts dbt memos = file_texts dbt memos.texts.items
 
--- and those of all memos
+-- the texts of all memos that were read
 abbrev pub all_texts : List ℕ → ReadMemos → List (List ℕ)
 all_texts dbt memos = texts_of (read_texts dbt memos) memos.numbers.items
 

@@ -45,7 +45,7 @@ schema_of bytes = map folded (fields_of bytes)
 abbrev pub has_version : List ℕ → Bool
 has_version bytes = slice_index bytes 0 == VERSION || slice_index bytes 0 == VERSION_WITH_MEMOS
 
--- each test beside the fault that it is for: first of the header,
+-- The reader's tests, each beside the fault that it is for, in the layout's order of refusals: first of the header,
 unfoldable pub header_tests : List ℕ → List (Bool × ImageFault)
 header_tests bytes =
     (nat_le HEADER (length bytes), Truncated)
@@ -53,19 +53,19 @@ header_tests bytes =
     ∷ (nat_le (header_length bytes) (length bytes), Truncated)
     ∷ []
 
--- then of the fields,
+-- the tests of the fields, after those of the header,
 unfoldable pub descriptor_tests : List ℕ → List (Bool × ImageFault)
 descriptor_tests bytes =
     (is_some (field_count bytes), BadHeaderLength)
     ∷ (is_none (schemas.schema_refusal (fields_of bytes)), BadSchema)
     ∷ []
 
--- Why the bytes are no table, as far as it is tested before memory is taken: by the header, and by whether
--- the list of fields ends in it.
+-- Why the bytes are no table, as far as it is tested before a reader takes memory: by the header, and by whether the list of fields
+-- ends in it.
 unfoldable pub early_refusal : List ℕ → Option ImageFault
 early_refusal bytes = first_fault (header_tests bytes ++ ((is_some (field_count bytes), BadHeaderLength) ∷ []))
 
--- then of the records,
+-- the tests of the records, after those of the fields,
 unfoldable pub record_tests : List ℕ → List (Bool × ImageFault)
 record_tests bytes =
     (record_length bytes == 1 + widths (schema_of bytes), BadRecordLength)
@@ -77,7 +77,7 @@ record_tests bytes =
 abbrev pub is_block : List ℕ → ℕ → Bool
 is_block dbt block = nat_lt 0 block && nat_lt (BLOCK * block) (length dbt)
 
--- the tests of a text at a block
+-- the tests of the text of a block
 unfoldable pub text_tests : List ℕ → ℕ → List (Bool × ImageFault)
 text_tests dbt block =
     (is_block dbt block, MemoOutside)
@@ -109,7 +109,7 @@ abbrev pub cells_read : List ℕ → List Field → List ℕ → List (List ℕ)
 cells_read dbt [] bytes = []
 cells_read dbt (f ∷ fs) bytes = cell_text dbt f (take f.width bytes) ∷ cells_read dbt fs (drop f.width bytes)
 
--- and of a record
+-- the tests of a record
 abbrev pub row_tests : List ℕ → List Field → List ℕ → List (Bool × ImageFault)
 row_tests dbt fields bytes = cells_tests dbt fields (drop 1 bytes)
 
@@ -124,7 +124,7 @@ rows_tests dbt fields records = flat_map (row_tests dbt fields) records
 abbrev pub records_of : List ℕ → List (List ℕ)
 records_of bytes = chunks (record_length bytes) (header_record_count bytes) (drop (header_length bytes) bytes)
 
--- and last of the memos, of all records in their order
+-- and last the tests of the memos, of all records in their order
 unfoldable pub memos_tests : List ℕ → Option (List ℕ) → List (Bool × ImageFault)
 memos_tests bytes dbt =
     (not (has_memos (schema_of bytes)) || is_some dbt, MemoFileMissing)
@@ -146,7 +146,7 @@ IsImageRefusal fault bytes dbt = (fault ≡ NoMemory) ⊎ (image_refusal bytes d
 abbrev pub dbf_header : List ℕ → Header
 dbf_header bytes = record { header_length = header_length bytes; record_length = record_length bytes; record_count = header_record_count bytes }
 
--- how long a file is, and the numbers of its header, where all of that is there
+-- how long a file is, and the numbers at its head, which are 0 if the header isn't all there
 abbrev pub table_numbers : List ℕ → TableNumbers
 table_numbers bytes =
     if nat_lt (length bytes) HEADER

@@ -57,23 +57,23 @@ rows_with fields (p ∷ ps) memos = row_with fields p memos ∷ rows_with fields
 abbrev pub rows_of : List Field → ℕ → List ℕ → List (List ℕ) → List Row
 rows_of fields count bytes memos = rows_with fields (row_chunks fields count bytes) memos
 
--- what a store that is lent has: the texts of its memos,
+-- what a store that is lent has: the texts of its memos
 abbrev pub memos_in : Store → List (List ℕ)
 memos_in store = texts_of store.texts.now.texts store.memos.now
 
--- the rows of its first `count` records,
+-- the rows of the first `count` records of a store that is lent
 abbrev pub rows_in : List Field → ℕ → Store → List Row
 rows_in fields count store = rows_of fields count store.records.now (memos_in store)
 
--- the rows of the records that a header counts,
+-- the rows of those records of a store that a header counts
 abbrev pub rows_by_header : List Field → Header → Store → List Row
 rows_by_header fields header store = rows_with fields (chunks header.record_length header.record_count store.records.now) (memos_in store)
 
--- the row of its only record,
+-- the row of the only record of a store
 abbrev pub row_in : List Field → Store → Row
 row_in fields store = row_with fields store.records.now (memos_in store)
 
--- and the cells of a record whose flag is left out
+-- the cells of the only record of a store, whose flag is left out
 abbrev pub cells_in : List Field → Store → List (List ℕ)
 cells_in fields store = cells_with fields store.records.now (memos_in store)
 

@@ -20,7 +20,7 @@ pub record Table : Type 0 where
 abbrev pub has_memos : List Field → Bool
 has_memos fields = list_any (λ f. f.kind == MEMO) fields
 
--- a text that a memo may have: short, and without the byte that ends a memo
+-- a text that a memo may have: at most 65,535 bytes, and no 0x1A, which ends a memo
 abbrev pub is_memo_text : List ℕ → Bool
 is_memo_text text = nat_le (length text) MAX_MEMO_BYTES && list_all (λ b. not (b == MEMO_END)) text
 
@@ -35,10 +35,11 @@ AreCells [] (c ∷ cs) = ⊥
 AreCells (f ∷ fs) [] = ⊥
 AreCells (f ∷ fs) (c ∷ cs) = IsCell f c × AreCells fs cs
 
+-- each cell of a record is one that its field may have
 abbrev pub IsRow : List Field → Row → Type 0
 IsRow fields row = AreCells fields row.cells
 
--- what is true of every table
+-- what is true of every table: its fields are those of a schema, its records are not too many and fit the fields
 pub record IsTable (table : Table) : Type 0 where
   pub fields : IsSchema table.schema
   pub count_bounded : length table.rows ≤ MAX_RECORDS
@@ -98,6 +99,6 @@ with_mark table number deleted = record {
 abbrev pub kept_rows : List Row → List Row
 kept_rows rows = filter (λ row. not row.deleted) rows
 
--- the table of these
+-- the table without the records that are marked as deleted
 abbrev pub packed : Table → Table
 packed table = record { schema = table.schema; rows = kept_rows table.rows }

@@ -20,7 +20,7 @@ abbrev pub entries_to : ℕ → List MemoBlock → List (ℕ × List ℕ)
 entries_to zero bs = []
 entries_to (suc n) bs = with_text_entry (text_at bs (suc n)) (suc n) (entries_to n bs)
 
--- no number is greater than the count of blocks
+-- the texts that stand in blocks, by their numbers, of which none is greater than the count of blocks
 abbrev pub stored_texts : List MemoBlock → map.FinMap nat_cmp (List ℕ)
 stored_texts bs = map.from_entries (entries_to (length bs) bs)
 

@@ -8,8 +8,8 @@ pub record FileInPlace (File : Type 0) : Type 0 where
   pub name : List ℕ
   pub file : File
 
--- Its path, ended by a slash, the file that is open to be written over, whether a sync has failed, and how often a call on it has failed. What its
--- files hold is outside of the program.
+-- What contracts see of a folder of the system with such a file: its path, ended by a slash, the file that is open to be written
+-- over, whether a sync has failed, and how often a call on it has failed. What its files hold is outside of the program.
 pub record SystemFolderInPlace (File : Type 0) : Type 0 where
   pub path : List ℕ
   pub opened : Option (FileInPlace File)

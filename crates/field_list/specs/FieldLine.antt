@@ -67,18 +67,23 @@ after_number line = if is_some (count_in (plain_word line)) then after_plain_wor
 abbrev pub after_width : List ℕ → List ℕ
 after_width line = after_plain_word (after_plain_word (after_plain_word (after_number line)))
 
+-- the name of the field, in a field's line
 abbrev pub line_name : List ℕ → List ℕ
 line_name line = plain_word (after_number line)
 
+-- the kind of the field, in a field's line
 abbrev pub line_kind : List ℕ → Option ℕ
 line_kind line = kind_named (second_plain_word (after_number line))
 
+-- the width of the field, in a field's line
 abbrev pub line_width : List ℕ → Option ℕ
 line_width line = byte_in (third_plain_word (after_number line))
 
+-- the decimals of the field, in a field's line
 abbrev pub line_decimals : List ℕ → Option ℕ
 line_decimals line = decimals_in (line_kind line) (plain_word (after_width line))
 
+-- the word that is too many, in a field's line
 abbrev pub line_extra : List ℕ → List ℕ
 line_extra line = extra_word (line_kind line) (after_width line)
 
@@ -93,6 +98,7 @@ parts_fault kind width decimals extra = first_fault (
     ∷ (is_empty extra, WordTooMany)
     ∷ [])
 
+-- the first fault of a line's parts, from left to right
 abbrev pub line_fault : List ℕ → Option FieldLineFault
 line_fault line = parts_fault (line_kind line) (line_width line) (line_decimals line) (line_extra line)
 

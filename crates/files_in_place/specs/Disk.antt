@@ -2,7 +2,7 @@
 use Rattle.std.specs.Prelude.{◌<◌, ◌≡◌, ◌≢◌, ◌⊎◌, ℕ, ◌≤◌, IsSome, None}
 use Rattle.files_in_place.specs.Folder.{Name, Folder, SameBut}
 
--- a folder is one of those after a step
+-- a folder after a step from one of those that a crash may leave
 abbrev pub AfterStep : (Folder → Folder → Type 0) → (Folder → Type 0) → Folder → Type 0
 AfterStep step outcomes c = (d : Folder) × outcomes d × step d c
 
@@ -23,13 +23,13 @@ pub record HasMoved (from to : Name) (old new : Folder) : Type 0 where
 abbrev pub SameButTwo : Name → Name → Folder → Folder → Type 0
 SameButTwo from to old new = (n : Name) → n ≢ from → n ≢ to → new n ≡ old n
 
--- A move that a crash cuts short: nothing has moved; or the new name has the file, and the old name has it too or nothing.
+-- What a crash may leave of a rename: nothing has moved; or the new name has the file, and the old name has it too, or nothing.
 -- Never is the new name without both files, nor the old name's file without a name.
 pub record MayMove (from to : Name) (old new : Folder) : Type 0 where
   pub either : ((new to ≡ old to) × (new from ≡ old from)) ⊎ ((new to ≡ old from) × ((new from ≡ old from) ⊎ (new from ≡ None)))
   pub elsewhere : SameButTwo from to old new
 
--- a removal that a crash cuts short
+-- what a crash may leave of a removal: all as it was, or the name without a file
 pub record MayRemove (name : Name) (old new : Folder) : Type 0 where
   pub either : (new name ≡ old name) ⊎ (new name ≡ None)
   pub elsewhere : SameBut name old new
@@ -43,12 +43,14 @@ pub record IsDurable (name : Name) (folder : Folder) (outcomes : Folder → Type
 abbrev pub Settles : Folder → (Name → Type 0) → (Folder → Type 0) → Type 0
 Settles folder is_whole outcomes = (c : Folder) → outcomes c → (n : Name) → is_whole n → c n ≡ folder n
 
--- a crash leaves what is seen and nothing else, and all bytes are on the disk
+-- every name has in each outcome of a crash what is seen, and all bytes are on the disk
 pub record IsSynced (folder : Folder) (is_whole : Name → Type 0) (outcomes : Folder → Type 0) : Type 0 where
   pub only : (c : Folder) → outcomes c → (n : Name) → c n ≡ folder n
   pub whole : (n : Name) → is_whole n
 
--- The model of a disk of this type: what reads show, what a crash may leave, which files are on the disk, and when.
+-- What a disk of this type means, as one value: whether it keeps its promises, what reads show, what a crash may leave now and
+-- might have left since a moment, which files are on the disk and which are new, the moment, and how often the disk has failed;
+-- with four laws on these.
 pub record DiskMeaning (D : Type 0) : Type 1 where
   -- the files are what the model says of them
   pub keeps_promises : Type 0
@@ -75,7 +77,7 @@ pub record DiskMeaning (D : Type 0) : Type 1 where
   -- since this moment there is no other
   pub only_now : (disk : D) (c : Folder) → left_since disk (moment disk) c → may_leave disk c
 
--- of the disk nothing is known but how often it has failed, and no promise is claimed
+-- the meaning of a disk of which only is known how often it has failed: no promise is claimed
 abbrev pub nothing_promised : {D : Type 0} → (D → ℕ) → DiskMeaning D
 nothing_promised failures = record {
   keeps_promises = ⊥;
@@ -92,7 +94,7 @@ nothing_promised failures = record {
   only_now = λ disk c now. now;
 }
 
--- a failure is told only where the disk has failed since
+-- a failure is answered only if the disk has failed since
 pub record HasCause (before now : ℕ) (failed : Type 0) : Type 0 where
   pub later : before ≤ now
   pub cause : failed → before < now
@@ -104,7 +106,8 @@ module _ {D : Type 0} (m : DiskMeaning D) where
     pub nothing_else : (t : ℕ) (c : Folder) → t ≤ m.moment old → m.left_since new t c → m.left_since old t c ⊎ m.may_leave new c
     pub keeps : (t : ℕ) (c : Folder) → t ≤ m.moment old → m.left_since old t c → m.left_since new t c
 
-  -- a call that changes no file
+  -- A call that changes no file. This and the next three say which names stay as they are, which files stay on the disk, what a
+  -- crash may leave, and that time goes on.
   pub record OnlyReads (old new : D) : Type 0 where
     pub seen : m.seen new ≡ m.seen old
     pub whole : (n : Name) → m.is_whole old n → m.is_whole new n
@@ -132,7 +135,7 @@ module _ {D : Type 0} (m : DiskMeaning D) where
     pub crash : ComesBy (MayRemove name) (m.may_leave old) (m.may_leave new)
     pub time : Elapses old new
 
-  -- A crash at any moment since old leaves a folder that has P.
+  -- A crash at any moment since the disk was old leaves only folders that have P.
   pub record LeavesOnly (old new : D) (P : Folder → Type 0) : Type 0 where
     pub later : m.moment old ≤ m.moment new
     pub each : (c : Folder) → m.left_since new (m.moment old) c → P c
@@ -147,10 +150,10 @@ module _ {D : Type 0} (m : DiskMeaning D) where
     pub crash : ComesBy step (m.may_leave old) (m.may_leave new)
     pub moments : LeavesOnly old new (AfterStep step (m.may_leave old))
 
-  -- all that is seen of the disk is on it
+  -- all that is seen of a disk is on it (`IsSynced`)
   abbrev pub IsSyncedDisk : D → Type 0
   IsSyncedDisk disk = IsSynced (m.seen disk) (m.is_whole disk) (m.may_leave disk)
 
-  -- a failure of this disk is told only where it has failed since
+  -- a failure of this disk is answered only if it has failed since
   abbrev pub HasDiskCause : D → D → Type 0 → Type 0
   HasDiskCause old new failed = HasCause (m.faults old) (m.faults new) failed

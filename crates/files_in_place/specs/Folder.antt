@@ -24,7 +24,7 @@ is_reserved name = starts_with nat_eq name (codes "~niqarthu")
 abbrev pub temporary : Name → Name
 temporary name = codes "~niqarthu~" ++ name
 
--- the file that lists the names of a set of new files
+-- the name of the list of new files: `~niqarthu.list`
 abbrev pub list_name : Name
 list_name = codes "~niqarthu.list"
 
@@ -69,8 +69,8 @@ abbrev pub first_of : Option (List ℕ) → Option (List ℕ) → Option (List �
 first_of (Some content) other = Some content
 first_of None other = other
 
--- What recovery makes of a folder that a crash may have left: of a name in the list the file that has its temporary
--- name, if there is one; else what has the name. No reserved name stays.
+-- What recovery makes of a folder that a crash may have left: of a reserved name nothing; of a name in the list the file of its
+-- temporary name, if there is one, and else what it has; of each other name what it has.
 abbrev pub recovered : Folder → Folder
 recovered folder name =
     if is_reserved name then None

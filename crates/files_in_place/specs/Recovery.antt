@@ -19,11 +19,11 @@ RecoversTo meant folder = (n : Name) → recovered folder n ≡ meant n
 abbrev pub SameFree : Folder → Folder → Type 0
 SameFree old new = (n : Name) → is_reserved n ≡ false → new n ≡ old n
 
--- so has each that the old folder's list doesn't have
+-- each name that is neither reserved nor in the old folder's list has what it had
 abbrev pub SameUnlisted : Folder → Folder → Type 0
 SameUnlisted old new = (n : Name) → is_reserved n ≡ false → is_listed old n ≡ false → new n ≡ old n
 
--- The old files are there, each under its name, and recovery keeps them.
+-- The old files are there: each name that isn't reserved has what it had, and recovery keeps it.
 pub record HasOldFiles (old new : Folder) : Type 0 where
   pub same : SameFree old new
   pub recovers : RecoversTo (without_reserved old) new

@@ -80,8 +80,8 @@ abbrev pub IsFreeFor : List Name → Name → Type 0
 IsFreeFor names lies = (n : Name) × (lies ≡ temporary n) × (is_staged names n ≡ false) × (is_file_name n ≡ true)
 
 module _ {D : Type 0} (m : DiskMeaning D) where
-  -- The files of the set are there under their temporary names, each other file is on the disk, and no other reserved name has a
-  -- file.
+  -- While the set is written: its files are there under their temporary names, each other file is on the disk, and no other
+  -- reserved name has a file.
   pub record AreStaged (names : List Name) (current : Option Name) (disk : D) : Type 0 where
     pub fit : AllByRecursion (λ name. is_file_name name ≡ true) names
     pub there : (n : Name) → is_staged names n ≡ true → IsSome (m.seen disk (temporary n))
@@ -102,7 +102,7 @@ module _ {D : Type 0} (m : DiskMeaning D) where
     pub staged : phase ≡ Staging → AreStaged names current disk
     pub left : phase ≢ Ended → AreLeft disk
 
-  -- All files of the set are on the disk, and so are their names in the list's temporary file.
+  -- All files of the set are on the disk, and so is its list, under a temporary name.
   pub record AreReady (names : List Name) (disk : D) : Type 0 where
     pub fit : AllByRecursion (λ name. is_file_name name ≡ true) names
     pub there : (n : Name) → is_staged names n ≡ true → IsSome (m.seen disk (temporary n))

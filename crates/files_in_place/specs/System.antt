@@ -15,8 +15,8 @@ use Rattle.files_in_place.specs.declared.faults.DiskFault.TheVariants.{Failed}
 use Rattle.files_in_place.specs.Folder.{temporary}
 use Rattle.files_in_place.specs.Staged.{is_dots}
 
--- Its path, ended by a slash, the name of the file that is open to take bytes, whether a sync has failed, and how often a call on it has failed.
--- What its files hold is outside of the program.
+-- A folder of the system as contracts see it: its path, ended by a slash, the name of the file that is open to take bytes, whether
+-- a sync has failed, and how often a call on it has failed. What its files hold is outside of the program.
 pub record SystemFolder : Type 0 where
   pub path : List ℕ
   pub current : Option (List ℕ)
@@ -35,8 +35,9 @@ abbrev pub HasTaken : {F : Type 0} → (F → List ℕ × Option (List ℕ)) →
 HasTaken seen name bytes (Some old) (Some new) = ((seen old).0 ≡ name) × ((seen new).0 ≡ name) × Appends (seen old).1 (seen new).1 bytes
 HasTaken seen name bytes old new = ⊥
 
--- What the calls of the system have answered. Each member holds of what such a call was given and has answered, and nothing else is known
--- of it: so whoever says that it holds has made the call. A path is its bytes.
+-- What the calls of the system have answered, a member for each call. Each member holds of what such a call was given and has
+-- answered, and nothing else is known of it: so whoever says that it holds has made the call. The other words of this file are said
+-- of these. A path is its bytes.
 pub record SystemAnswers (File Names : Type 0) : Type 1 where
   -- what has the path, a link not followed (`lstat`)
   pub finds : List ℕ → Result Metadata Error → Type 0

@@ -27,7 +27,7 @@ abbrev pub HasBytesOf : Option (List NamedFile) → List ℕ → List ℕ → Ty
 HasBytesOf None path bytes = Unit {0}
 HasBytesOf (Some files) path bytes = file_at files path ≡ Some bytes
 
--- a file is known to have the name of a set's list in the folder of a path
+-- a set's list is known to lie in the folder of a path
 abbrev pub has_list_beside : Option (List NamedFile) → List ℕ → Bool
 has_list_beside None path = false
 has_list_beside (Some files) path = is_some (file_at files (list_beside path))
@@ -54,8 +54,8 @@ abbrev pub is_unreadable : Option (List NamedFile) → List ℕ → Bool
 is_unreadable None path = false
 is_unreadable (Some files) path = is_none_or_long (file_at files path)
 
--- Why no load gives the file of a path, as far as the files are known: the path ends with a reserved name; the list of a
--- set lies beside its file, so that the set is not in place; the file is not there, or over the limit.
+-- Why no load gives the file of a path, as far as the files are known, as the first of three tests that fails: the path ends with a
+-- reserved name; the list of a set lies beside its file, so that the set is not in place; the file is not there, or over the limit.
 abbrev pub load_refusal : Option (List NamedFile) → List ℕ → Option LoadFault
 load_refusal files path =
     first_fault ((not (is_reserved_path path), CannotRead) ∷ (not (has_list_beside files path), Unrecovered) ∷ (not (is_unreadable files path), CannotRead) ∷ [])
@@ -94,7 +94,7 @@ abbrev pub files_read : List ℕ → FilesRead
 files_read [] = record { text = []; bytes = []; files = [] }
 files_read (b ∷ bs) = with_one_more b (files_read bs)
 
--- the files that such a list tells of
+-- the files that a list of files (`listing`) has
 abbrev pub files_in : List ℕ → List NamedFile
 files_in list = (files_read list).files
 

@@ -8,7 +8,7 @@ abbrev pub through_last_slash : List ℕ → ℕ → ℕ
 through_last_slash path zero = 0
 through_last_slash path (suc n) = if slice_index path n == slash then suc n else through_last_slash path n
 
--- where the name begins that a path ends with: behind its last slash
+-- where the name begins that a path ends with: after its last slash
 abbrev pub name_start : List ℕ → ℕ
 name_start path = through_last_slash path (length path)
 

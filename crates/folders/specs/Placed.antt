@@ -11,8 +11,8 @@ use Rattle.files_in_place.specs.declared.faults.SetFault.{SetFault}
 use Rattle.folders.specs.declared.named.NamedFile.{NamedFile}
 use Rattle.folders.specs.Files.{file_at, files_in, listing, IsOfBytes}
 
--- What contracts see of new files for a folder of a disk: their set, the files as one list, how often a call has failed, and
--- why the last one that begins or writes a file did that has.
+-- What contracts see of a `DiskFolder`, which takes new files for a folder of a disk: their set, the files as one list, how often a
+-- call has failed, and why the last one that begins or writes a file did that has.
 pub record NewFiles (D : Type 0) : Type 0 where
   pub set : Set D
   pub written : List ℕ

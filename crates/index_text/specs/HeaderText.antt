@@ -15,15 +15,15 @@ use Rattle.table_text.specs.Quoted.{between_quotes}
 unfoldable pub needed_tests : List ℕ → List (Bool × NdxFault)
 needed_tests bytes = (nat_le PAGE (length bytes), Truncated) ∷ layout_tests (header_numbers bytes).key_len (header_numbers bytes).record_size
 
--- why no page can be read, where none can
+-- why no page can be read: the first of three tests of the header that fails, if one does
 abbrev pub layout_fault : List ℕ → Option NdxFault
 layout_fault bytes = first_fault (needed_tests bytes)
 
--- no page can be read
+-- one of these tests fails, so no page can be read
 abbrev pub HasNoLayout : List ℕ → Type 0
 HasNoLayout bytes = IsSome (layout_fault bytes)
 
--- what a fault is told as: its name, and what it says
+-- what is printed of a fault: its name, and what it says
 unfoldable pub fault_words : NdxFault → List ℕ
 fault_words fault = ndx_name fault ++ (codes ": " ++ ndx_words fault)
 
@@ -55,7 +55,7 @@ key_lines numbers =
 unfoldable pub expression_line : List ℕ → List ℕ
 expression_line bytes = codes "Key expression: " ++ (between_quotes (padded_expression bytes) ++ LF ∷ [])
 
--- the header page, where the file has it whole
+-- the lines of an index file's header page, if the file has it whole
 unfoldable pub header_text : List ℕ → List ℕ
 header_text bytes =
     if nat_le PAGE (length bytes)

@@ -19,11 +19,11 @@ abbrev pub key_of_first : List Pair → List ℕ
 key_of_first [] = []
 key_of_first (p ∷ ps) = p.key
 
--- the least key of pairs, in whatever order they stand,
+-- the least key of pairs, in whatever order they stand, byte by byte
 unfoldable pub least_key : List Pair → List ℕ
 least_key pairs = fold (λ key p. lesser_key key p.key) (key_of_first pairs) pairs
 
--- and the greatest
+-- the greatest key of pairs, in whatever order they stand, byte by byte
 unfoldable pub greatest_key : List Pair → List ℕ
 greatest_key pairs = fold (λ key p. greater_key key p.key) (key_of_first pairs) pairs
 

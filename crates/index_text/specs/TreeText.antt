@@ -27,7 +27,8 @@ abbrev pub one_by_one : (List ℕ → ℕ → PagesTold) → List ℕ → List �
 one_by_one tell met [] = record { met = met; text = [] }
 one_by_one tell met (p ∷ ps) = told_after (tell met p) (one_by_one tell (tell met p).met ps)
 
--- what a page of the file holds by the sizes that its header gives, or the rule that it breaks, where these pages were met before
+-- what a page of the file holds by the sizes that its header gives, or the rule that it breaks, if these pages were met before
+-- (`look` of ndx_index)
 abbrev pub page_in : List ℕ → List ℕ → ℕ → Result Node NdxFault
 page_in bytes met p = look (ndx_header bytes).layout bytes met p
 
@@ -47,7 +48,7 @@ enough_levels bytes = length bytes / PAGE + 1
 abbrev pub pages_text : List ℕ → ℕ → List ℕ
 pages_text bytes root = (tree_under bytes (enough_levels bytes) 0 [] root).text
 
--- the pages under a root that are told with what they hold, the last one first
+-- the pages under a root that are shown with what they hold, the last one first
 abbrev pub pages_told : List ℕ → ℕ → List ℕ
 pages_told bytes root = (tree_under bytes (enough_levels bytes) 0 [] root).met
 
@@ -56,6 +57,6 @@ abbrev pub tree_or_fault : List ℕ → Option NdxFault → List ℕ
 tree_or_fault bytes None = pages_text bytes (ndx_header bytes).root
 tree_or_fault bytes (Some fault) = fault_line fault
 
--- an index file as text: its header, and its pages from the root on
+-- an index file as text: the lines of its header, and those of its pages from the root on, or why none is read
 unfoldable pub tree_text : List ℕ → List ℕ
 tree_text bytes = header_text bytes ++ tree_or_fault bytes (layout_fault bytes)

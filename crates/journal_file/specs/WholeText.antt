@@ -17,7 +17,7 @@ use Rattle.journal_file.specs.declared.cutting.JournalParts.{JournalParts}
 abbrev pub sum_as : List ℕ → ℕ → List ℕ → FileSum
 sum_as path count digest = record { path = path; length = count; digest = digest }
 
--- a file of this path with these bytes
+-- what is said of a file: its path, how many bytes it has, and the hex digits of their SHA-256
 abbrev pub sum_of_file : List ℕ → List ℕ → FileSum
 sum_of_file path bytes = sum_as path (length bytes) (encode_lower (sha256 bytes))
 
@@ -44,7 +44,7 @@ sums_and word (sum ∷ sums) rest = sum_and word sum (sums_and word sums rest)
 abbrev pub read_word : List ℕ
 read_word = codes "read "
 
--- and before one that was written
+-- what stands in a line before a file that was written
 abbrev pub wrote_word : List ℕ
 wrote_word = codes "wrote "
 
@@ -83,6 +83,7 @@ end_line = codes "end" ++ LF ∷ []
 abbrev pub tail_text : List FileSum → List ℕ
 tail_text wrote = sums_and wrote_word wrote end_line
 
+-- the whole text of a journal
 abbrev pub whole_text : WholeJournal → List ℕ
 whole_text j = head_and j.read j.reindex (length j.entries) (lines_and j.entries (tail_text j.wrote))
 
@@ -95,7 +96,7 @@ pub record CanBeTold (j : WholeJournal) : Type 0 where
 
 -- ---- a text that is cut
 
--- these parts of the text show what it tells
+-- these parts of the text, which is a journal's, show what it tells
 pub record IsCutInto (text : List ℕ) (parts : JournalParts) : Type 0 where
   pub journal : WholeJournal
   pub whole : CanBeTold journal
@@ -106,7 +107,7 @@ pub record IsCutInto (text : List ℕ) (parts : JournalParts) : Type 0 where
   pub entries : parts.entries.now ≡ lines_and journal.entries []
   pub wrote : parts.wrote.now ≡ sums_and wrote_word journal.wrote []
 
--- it is the whole text of no journal
+-- the text is the whole text of no journal
 abbrev pub IsNotWhole : List ℕ → Type 0
 IsNotWhole text = (j : WholeJournal) → CanBeTold j → text ≢ whole_text j
 
@@ -114,7 +115,7 @@ IsNotWhole text = (j : WholeJournal) → CanBeTold j → text ≢ whole_text j
 abbrev pub has_front : List ℕ → List ℕ → Bool
 has_front front text = bytes_eq front (take (length front) text)
 
--- it begins as a journal's text does, as far as it goes
+-- the text begins with `read `, as far as it goes
 abbrev pub begins_as_journal : List ℕ → Bool
 begins_as_journal text = has_front read_word text || has_front text read_word
 

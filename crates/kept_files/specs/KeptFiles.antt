@@ -25,7 +25,7 @@ kept path name kind = record { path = path; name = name; kind = kind }
 abbrev pub kept_of : KeptFile → Kept
 kept_of file = kept file.path.now file.name.now file.kind
 
--- the name of the new file
+-- the name of the new file of a table, of its memos or of an index
 abbrev pub new_name : Kept → List ℕ
 new_name file = file.name ++ ending_of file.kind
 
@@ -33,13 +33,14 @@ new_name file = file.name ++ ending_of file.kind
 abbrev pub kept_unless_named : Kept → Option Kept
 kept_unless_named file = if bytes_eq (name_at_end file.path) (new_name file) then None else Some file
 
--- of the DBF file of a table, and of the NDX file of an index
+-- the DBF file of a table, or the NDX file of an index, that an entry of a setup names, if its path does not end with the name of
+-- the new file
 abbrev pub kept_file_in : SetupEntry → Option Kept
 kept_file_in (entry.Table name dbf dbt) = kept_unless_named (kept dbf name Table)
 kept_file_in (entry.Index table name ndx) = kept_unless_named (kept ndx name Index)
 kept_file_in (entry.Station script) = None
 
--- of the DBT file of a table, where one is named
+-- the same of the DBT file of a table, if one is named
 abbrev pub kept_memo_file_in : SetupEntry → Option Kept
 kept_memo_file_in (entry.Table name dbf (Some dbt)) = kept_unless_named (kept dbt name Memos)
 kept_memo_file_in other = None

@@ -4,7 +4,7 @@ use Rattle.std.specs.Fmt.{decimal}
 use Rattle.key_expr.specs.declared.fault.ExprFault.{ExprFault}
 use Rattle.key_expr.specs.declared.fault.ExprFault.TheVariants as fault
 
--- the name of its variant, without what it carries
+-- the name of a fault, without the number that one carries
 abbrev pub expression_name : ExprFault → List ℕ
 expression_name fault.ExpressionTooLong = codes "ExpressionTooLong"
 expression_name (fault.BadSyntax offset) = codes "BadSyntax"

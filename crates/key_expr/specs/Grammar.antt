@@ -37,7 +37,7 @@ pub data Sort : Type 0 where
   a_term : Sort
   an_expr : Sort
 
--- the first tokens, up to the rest, are an expression, or one term of it
+-- The grammar, one rule a line: the first tokens, up to the rest, are an expression, or one term of it.
 pub data Reads : Sort → Expr → List Token → List Token → Type 0 where
   one_term : {e : Expr} {ts rest : List Token} → Reads a_term e ts rest → Reads an_expr e ts rest
   sum : {e f : Expr} {ts us vs rest : List Token}

@@ -4,7 +4,7 @@ use Rattle.std.proofs.Common.{arith, ◌∙◌, ap, sym, length-take-le, take-ap
 use Rattle.key_expr.specs.declared.format.TheConstants.{MAX_KEY_BYTES}
 use Rattle.key_expr.specs.declared.key.Key.TheInside.{Inside}
 
--- the bytes of a key
+-- the bytes of a key, of which there are 100 at most
 abbrev pub key_bytes : Inside → List ℕ
 key_bytes k = take k.len k.bytes
 

@@ -56,11 +56,11 @@ OfEachField P (dtoc i) = P i
 abbrev pub IsNoMemo : List Field → ℕ → Type 0
 IsNoMemo fields i = (f : Field) × (slice_get fields i ≡ Some f) × (f.kind ≢ MEMO)
 
--- the cells of two records are the same, but for those of memos
+-- the cells of two records are the same, except those of memos
 abbrev pub AgreeButMemos : List Field → List (List ℕ) → List (List ℕ) → Type 0
 AgreeButMemos fields cs ds = (i : ℕ) → IsNoMemo fields i → get_or cs i [] ≡ get_or ds i []
 
--- it is the key of the cells, and of all others that are the same but for those of memos
+-- it is the key of the cells, and of all others that are the same except those of memos
 abbrev pub IsKeyWhateverMemos : List Field → List (List ℕ) → Expr → List ℕ → Type 0
 IsKeyWhateverMemos fields known e bytes = (cells : List (List ℕ)) → AgreeButMemos fields known cells → bytes ≡ key cells e
 

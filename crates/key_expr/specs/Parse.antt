@@ -68,6 +68,7 @@ abbrev pub where_kept : List Field → Option Expr → Option Expr
 where_kept fields None = None
 where_kept fields (Some e) = elim (broken_rule fields e) [ None ↦ Some e | Some fault ↦ None ]
 
--- the key expression that a text is, where it is one
+-- The key expression that a text is, if it is one: a function, with a clause for each rule of the grammar. It agrees with
+-- `IsKeyText` (proofs/ParseLaws.antt).
 unfoldable pub expr_in : List Field → List ℕ → Option Expr
 expr_in fields text = if nat_le (length text) MAX_EXPRESSION_BYTES then where_kept fields (expr_of_tokens (tokens_of fields text)) else None

@@ -8,7 +8,7 @@ use Rattle.dbf_fields.specs.NumberText.{number_text, right_justified}
 abbrev pub text_in_width : ℕ → List ℕ → List ℕ
 text_in_width width text = if nat_le (length text) width then right_justified width text else replicate width ASTERISK
 
--- what the number of a cell prints: asterisks where the cell can't be read
+-- what STR prints of the number of a cell: asterisks if the cell can't be read. DTOC prints `date_shown` of dbf_fields.
 abbrev pub str_text : ℕ → ℕ → List ℕ → List ℕ
 str_text width decimals cell = elim (number cell decimals) [
   | None ↦ replicate width ASTERISK

@@ -75,6 +75,6 @@ tokens_after fields whole zero (b ∷ bs) =
     else record { kind = kind_of fields (b ∷ bs); offset = whole - length (b ∷ bs) }
     ∷ tokens_after fields whole (token_length (b ∷ bs) - 1) bs
 
--- the tokens of a text and the end, with their offsets; the names are those of the fields
+-- the tokens of a text, each with its offset; the end of the text is a token too, and the names are those of the fields
 abbrev pub tokens_of : List Field → List ℕ → List Token
 tokens_of fields text = tokens_after fields (length text) zero text

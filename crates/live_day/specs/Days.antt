@@ -59,7 +59,7 @@ pub record IsLastAnswer (h : History) (station : ℕ) (line : List ℕ) : Type 0
 abbrev pub IsAnswerTold : History → ℕ → List ℕ → Type 0
 IsAnswerTold h station line = IsLastAnswer h station line ⊎ (line ≡ status_text (row h))
 
--- nothing was performed
+-- why nothing was performed
 abbrev pub IsUnperformed : LineFault → Type 0
 IsUnperformed NoMemory = Unit {0}
 IsUnperformed JournalFull = Unit {0}

@@ -15,7 +15,7 @@ use Rattle.live_day.specs.declared.keyboard.TypingFault.TheVariants as of_typing
 use Rattle.live_day.specs.declared.run_fault.RunFault.{RunFault}
 use Rattle.live_day.specs.declared.run_fault.RunFault.TheVariants as of_run
 
--- a line was not performed
+-- why a line was not performed, as a fault of a line
 abbrev pub line_fault_of : Stop → LineFault
 line_fault_of of_catalogue.NoMemory = of_line.NoMemory
 line_fault_of of_catalogue.JournalFull = of_line.JournalFull

@@ -12,7 +12,7 @@ use Rattle.live_day.specs.Sessions.{Told, AreObeyed, IsEnd, IsObeyed, IsWishType
 use Rattle.live_day.specs.Shows.{MayBeSaid}
 use Rattle.live_day.specs.Typing.{HasTyped, IsAllTyped}
 
--- the line is not QUIT
+-- a typed line is not `QUIT`
 abbrev pub IsNoQuit : Typed → Type 0
 IsNoQuit typed = ¬ (IsWishTyped typed Quit)
 

@@ -20,6 +20,7 @@ use Rattle.live_day.specs.Wishes.{IsWishOf}
 abbrev pub Told : Type 0
 Told = ℕ × ℕ × List ℕ
 
+-- what was told in a line that was shown: the station, how many entries the journal had, and the line
 abbrev pub told_in : ShownLine → Told
 told_in s = (s.station, s.count, s.line)
 
@@ -76,6 +77,7 @@ pub record IsNotPerformed (station : ℕ) (typed : Typed) (old new : History) (t
   pub refused : IsLineRefused typed old why
   pub told_is : told ≡ notice_told station old why
 
+-- a line was performed and its answer told, or nothing was performed, and that was told
 abbrev pub IsLineDone : ℕ → Typed → History → History → List Told → Type 0
 IsLineDone station typed old new told = IsLineAnswered station typed old new told ⊎ IsNotPerformed station typed old new told
 

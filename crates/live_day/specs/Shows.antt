@@ -47,7 +47,7 @@ pub record HasFront (name : Name) (least : ℕ) (journal : List LineParts) (c : 
   pub stands : StandsFor log front
   pub enough : least ≤ length front
 
--- and each other file as it was
+-- the file of the log has the journal's first entries so (`HasFront`), and each other file is as it was
 pub record HasFrontIn (name : Name) (least : ℕ) (journal : List LineParts) (old c : Folder) : Type 0 where
   pub kept : HasFront name least journal c
   pub elsewhere : SameBut name old c
@@ -75,7 +75,7 @@ module _ {D : Type 0} (m : DiskMeaning D) where
     pub moments : m.keeps_promises
         → LeavesOnly m old.log.disk new.log.disk (HasFrontIn old.log.name (length old.history.journal) (parts_of new.history.journal) (m.seen old.log.disk))
 
-  -- and each line that was shown meanwhile is kept
+  -- the day goes on so, and each line that was shown meanwhile is kept
   pub record KeepsShown (old new : DayValue D) (shown shown_then : List ShownLine) : Type 0 where
     pub lines : List ShownLine
     pub more : shown_then ≡ shown ++ lines

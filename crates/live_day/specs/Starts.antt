@@ -11,6 +11,7 @@ use Rattle.live_log.specs.declared.faults.ReadFault.TheVariants as of_read
 use Rattle.live_day.specs.declared.start_fault.StartFault.{StartFault}
 use Rattle.live_day.specs.declared.start_fault.StartFault.TheVariants as of_start
 
+-- a fault of the audit of a log, as one of a start
 abbrev pub audit_fault_of : AuditFault → StartFault
 audit_fault_of of_audit.NoMemory = of_start.NoMemory
 audit_fault_of fault = of_start.Audit fault
@@ -19,7 +20,8 @@ abbrev pub read_fault_of : ReadFault → StartFault
 read_fault_of (of_read.Changed number) = of_start.Changed number
 read_fault_of of_read.NoMemory = of_start.NoMemory
 
--- the log is changed at the entry of this number, and stands for no entries; or the lines of its entries are those of a legal history on the opened tables up to the fault
+-- The log is changed at the entry of this number, and stands for no entries; or the lines of its entries are those of a legal
+-- history on the opened tables up to the fault.
 abbrev pub IsLogFault : Opened → List ℕ → StartFault → Type 0
 IsLogFault opened log (of_start.Changed number) = IsChangedAt log number
 IsLogFault opened log (of_start.Audit fault) = (es : List LineParts) × StandsFor log es × IsAuditFault opened (lines_and es []) fault

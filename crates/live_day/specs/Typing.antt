@@ -18,7 +18,7 @@ IsTypedAs lf line typed = IsLineTyped line typed
 IsTypedAs cr_lf line typed = IsLineTyped line typed
 IsTypedAs none line typed = typed ≡ Cut
 
--- the text's first line was typed, and this stands after it
+-- the text's first line was typed, as a script's lines are cut (`BeginsWithLine`), and this stands after it
 pub record TypesFirst (text : List ℕ) (typed : Typed) (rest : List ℕ) : Type 0 where
   pub line : List ℕ
   pub first : BeginsWithLine text line rest

@@ -15,7 +15,7 @@ use Rattle.live_log.specs.declared.lines.TheConstants.{SUM_BYTES}
 abbrev pub LineParts : Type 0
 LineParts = ℕ × List ℕ × List ℕ
 
--- the sum of an entry's line: the first bytes of its SHA-256, in hex with small letters
+-- the sum of an entry's line: the first 8 bytes of its SHA-256, in hex with small letters
 unfoldable pub sum_of_line : List ℕ → List ℕ
 sum_of_line line = encode_lower (take SUM_BYTES (sha256 line))
 
@@ -125,7 +125,7 @@ pub record AddsLines (old new : ReadLines) (more : List LineParts) : Type 0 wher
   pub count_is : new.count ≡ old.count + length more
   pub small : HaveSmallNumbers more
 
--- so the text was read up to the rest
+-- the text was read up to the rest
 pub record HasReadTo (old new : ReadLines) (text rest : List ℕ) : Type 0 where
   pub more : List LineParts
   pub is : text ≡ gated more rest

@@ -11,13 +11,13 @@ use Rattle.live_program.specs.declared.options.Options.{Options}
 use Rattle.live_program.specs.declared.failure.LiveFailure.{LiveFailure}
 use Rattle.live_program.specs.Endings.{no_memory}
 
--- the program with the options that have to be given
+-- the program with those of its options that have to be given
 abbrev pub paths_app : App
 paths_app =
     with_rule (with_rule (with_rule (program_app (codes "station_prompt")) (required_rule (codes "setup"))) (required_rule (codes "out")))
     (required_rule (codes "today"))
 
--- the program and all its options
+-- the program and all its options, as they are declared to `clap`
 abbrev pub prompt_app : App
 prompt_app = with_rule (with_rule paths_app (flag_rule (codes "reindex"))) (flag_rule (codes "live"))
 

@@ -47,7 +47,7 @@ pub record AreDayFiles (h : History) (today : Day) (files : List NamedFile) : Ty
   pub few_blocks : first_blocked 1 tables ≡ None
   pub files_are : files ≡ dated_files today tables ++ (answer_files_of h.opened.stations h.journal ++ closed_log_file (length h.journal))
 
--- they stand after what was written before
+-- these files stand after what was written before
 pub record AreFilesWritten (h : History) (today : Day) (old new : Option (List ℕ)) : Type 0 where
   pub files : List NamedFile
   pub such : AreDayFiles h today files

@@ -15,6 +15,7 @@ numbers_of_typed (Text line) = 1 ∷ line
 numbers_of_typed TooLong = []
 numbers_of_typed Cut = 0 ∷ []
 
+-- the typed line that such a list of numbers is
 abbrev pub typed_of_numbers : List ℕ → Typed
 typed_of_numbers [] = TooLong
 typed_of_numbers (zero ∷ line) = Cut
@@ -37,6 +38,7 @@ pub record TypedValue (R : Type 0) : Type 0 where
 abbrev pub numbers_of_shown : ShownLine → List ℕ
 numbers_of_shown s = s.moment ∷ (s.count ∷ (s.station ∷ s.line))
 
+-- the line that was shown that such a list of numbers is
 abbrev pub shown_of_numbers : List ℕ → ShownLine
 shown_of_numbers (moment ∷ (count ∷ (station ∷ line))) = record { moment = moment; count = count; station = station; line = line }
 shown_of_numbers other = record { moment = 0; count = 0; station = 0; line = [] }

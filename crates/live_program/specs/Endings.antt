@@ -82,6 +82,7 @@ entry_reason (fault.Differs d) = difference_reason d
 entry_reason fault.TooLong = codes "the log has too many entries"
 entry_reason fault.NoMemory = codes "run: NoMemory"
 
+-- how a call that failed ends: what is said on standard error
 abbrev pub reason : LiveFailure → List ℕ
 reason (failure.Serve why) = fault_reason why
 reason (failure.NoLog number) = codes "entry " ++ (decimal number ++ codes " of the log: STATIONS.LOG is no log of this version, or somebody has changed it")

@@ -39,13 +39,14 @@ use Rattle.live_program.specs.declared.options.Options.{Options}
 
 -- ---- a day that was not begun
 
--- the tables of the setup are not opened
+-- why a day was not begun: the tables of the setup are not opened
 pub record IsTablesFailure (files : Option (List NamedFile)) (options : Options) (why : LiveFailure) : Type 0 where
   pub fault : ServeFault
   pub unopened : AreTablesUnopened files options.setup.now options.reindex fault
   pub why_is : why ≡ live.Serve fault
 
--- they are, but what the log says is not performed once more on them, for a fault of which this says when it is told
+-- the tables of the setup are opened, but what the log says is not performed once more on them, for a fault of which this says when
+-- it is told
 pub record IsLogFailure (is_told : Opened → StartFault → Type 0) (files : Option (List NamedFile)) (options : Options) (why : LiveFailure) : Type 0 where
   pub opened : Opened
   pub tables : AreTablesOpened files options.setup.now options.reindex opened
@@ -57,7 +58,7 @@ pub record IsLogFailure (is_told : Opened → StartFault → Type 0) (files : Op
 abbrev pub IsLogUnplaced : LiveFailure → Type 0
 IsLogUnplaced why = ((fault : DiskFault) × (why ≡ unread_log fault)) ⊎ ((fault : SetFault) × (why ≡ unplaced_log fault))
 
--- one of the three
+-- why a day was not begun: one of the three
 abbrev pub IsUnstarted : (Opened → StartFault → Type 0) → Option (List NamedFile) → Options → LiveFailure → Type 0
 IsUnstarted is_told files options why = IsTablesFailure files options why ⊎ IsLogFailure is_told files options why ⊎ IsLogUnplaced why
 
@@ -67,7 +68,7 @@ IsToldOf m folder opened fault = m.keeps_promises → IsLogFault opened (or_empt
 
 -- ---- a day that was begun
 
--- its lines were not all answered, for a fault of which this says when it is told
+-- why the lines of a day that was begun were not all answered: a fault of which this says when it is told
 abbrev pub IsStopFailure : (RunFault → Type 0) → LiveFailure → Type 0
 IsStopFailure is_told why = (fault : RunFault) × is_told fault × (why ≡ run_failure fault)
 
@@ -81,7 +82,7 @@ IsFileUnwritten is_such fault = ⊥
 abbrev pub IsAnswerName : ℕ → List ℕ → Type 0
 IsAnswerName stations name = (station : ℕ) × (1 ≤ station) × (station ≤ stations) × (name ≡ answer_name station)
 
--- or that of the log
+-- the name is that of the answers of one of so many stations, or that of the log
 abbrev pub IsNameBeside : ℕ → List ℕ → Type 0
 IsNameBeside stations name = IsAnswerName stations name ⊎ (name ≡ log_name)
 
@@ -98,20 +99,20 @@ IsTableNamed h today fault = Unit {0}
 abbrev pub IsTableFault : History → Day → ServeFault → Type 0
 IsTableFault h today fault = IsLegal h.opened h.journal × IsTablesFault h today.year fault × IsTableNamed h today fault
 
--- the files of its end are not written, or not all
+-- the files of a day's end are not written, or not all
 abbrev pub IsDayFailure : History → Day → LiveFailure → Type 0
 IsDayFailure h today why =
     (fault : ServeFault) × (IsFileUnwritten (IsNameBeside h.opened.stations) fault ⊎ IsTableFault h today fault) × (why ≡ live.Serve fault)
 
--- they are, but have not got their places
+-- the files of a day's end are written, but have not got their places
 abbrev pub AreFilesUnplaced : Failure LiveFailure → Type 0
 AreFilesUnplaced why = (fault : FinishFault) × (why ≡ place_failure no_memory (unplaced_files fault))
 
--- it was not closed
+-- the day was not closed
 abbrev pub IsUnclosed : History → Day → Failure LiveFailure → Type 0
 IsUnclosed h today why = ((fault : LiveFailure) × IsDayFailure h today fault × (why ≡ failure.Work fault)) ⊎ AreFilesUnplaced why
 
--- it was stopped or not closed
+-- the day was stopped or not closed
 abbrev pub IsUnended : (RunFault → Type 0) → History → Day → Failure LiveFailure → Type 0
 IsUnended is_told h today why = ((stop : LiveFailure) × IsStopFailure is_told stop × (why ≡ failure.Work stop)) ⊎ IsUnclosed h today why
 
@@ -122,7 +123,7 @@ IsUnended is_told h today why = ((stop : LiveFailure) × IsStopFailure is_told s
 abbrev pub IsUnendedFrom : (History → RunFault → Type 0) → Opened → Day → Failure LiveFailure → Type 0
 IsUnendedFrom is_told opened today why = (last : History) × (last.opened ≡ opened) × IsUnended (is_told last) last today why
 
--- a day on the setup's tables
+-- the same of a day on the tables of the setup
 abbrev pub IsUnendedOn : (History → RunFault → Type 0) → Option (List NamedFile) → Options → Failure LiveFailure → Type 0
 IsUnendedOn is_told files options why =
     (opened : Opened) × AreTablesOpened files options.setup.now options.reindex opened × IsUnendedFrom is_told opened options.today why
@@ -135,7 +136,7 @@ IsLifeFailure m is_told files options disk why =
     ⊎ ((fault : LiveFailure) × IsUnstarted (IsToldOf m (recovered (m.seen disk))) files options fault × (why ≡ failure.Work fault))
     ⊎ IsUnendedOn is_told files options why
 
--- or its folder was not opened
+-- a life over the folder of a disk failed, or its folder was not opened
 abbrev pub IsOptionsFailure : {D : Type 0} → DiskMeaning D → (D → Type 0) → (History → RunFault → Type 0) → Option (List NamedFile) → Options
     → Failure LiveFailure → Type 0
 IsOptionsFailure {D} m is_opened is_told files options why =

@@ -6,7 +6,7 @@ use Rattle.station_lines.specs.AnswerLines.{line_of}
 use Rattle.station_lines.specs.CommandLines.{text_of_command}
 use Rattle.station_lines.specs.declared.script.format.TheConstants.{LF}
 
--- how many were performed once more at the start, its LF too
+-- how many commands were performed once more at the start, its LF too
 abbrev pub again_line : ℕ → List ℕ
 again_line count = codes "station_prompt: " ++ (decimal count ++ (codes " commands performed again" ++ LF ∷ []))
 
@@ -42,8 +42,8 @@ abbrev pub last_lines : ℕ → List Entry → List ℕ
 last_lines zero journal = []
 last_lines (suc n) journal = last_lines n journal ++ last_said (suc n) (last_entry (suc n) journal)
 
--- What is said where a journal was performed once more: how many commands there are, and the last one of each station with its
--- answer. Nothing where it has none.
+-- All that a start says of a log, whose journal was performed once more: how many commands there are, and the last one of each
+-- station with its answer. Nothing if it has none.
 abbrev pub again_text : ℕ → List Entry → List ℕ
 again_text stations [] = []
 again_text stations (e ∷ es) = again_line (length (e ∷ es)) ++ last_lines stations (e ∷ es)

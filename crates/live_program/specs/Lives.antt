@@ -55,8 +55,8 @@ abbrev pub IsOpenOrClosed : ℕ → History → DayEnd → Folder → Folder →
 IsOpenOrClosed least last end found left = IsOpenStill least last found left ⊎ IsClosedNow last end found left
 
 module _ {D : Type 0} (m : DiskMeaning D) where
-  -- A line that was shown was told of the journal's first entries, and whatever a crash since then might have left has these: in its
-  -- log, or in the day's files.
+  -- Whatever a crash since a line was shown may have left has the entries of which the line was told, in the log or in the day's
+  -- files.
   pub record IsNeverLost (found : Folder) (last : History) (end : DayEnd) (now : D) (s : ShownLine) : Type 0 where
     pub told : MayBeTold (at_count last s.count) s.station s.line
     pub among : s.count ≤ length last.journal
@@ -72,7 +72,8 @@ module _ {D : Type 0} (m : DiskMeaning D) where
     pub each : AllByRecursion (IsNeverLost found last end now) lines
     pub moments : LeavesOnly m start now (λ left. before left ⊎ IsOpenOrClosed (length first.journal) last end found left)
 
-  -- and at its end all lines that were typed were obeyed, one after another, and the day's files are in their places
+  -- the journal goes on so, and at the day's end all lines that were typed were obeyed, one after another, and the day's files are
+  -- in their places
   pub record IsClosedDay (ended : Type 0) (typed typed_then : List Typed) (before : Folder → Type 0) (found : Folder) (first : History) (end : DayEnd)
       (shown shown_then : List ShownLine) (start now : D) (lived : Lived) : Type 0 where
     pub last : History
@@ -126,7 +127,7 @@ pub record IsOpenedLife {D : Type 0} (m : DiskMeaning D) (is_opened : D → Type
   pub opened : is_opened start
   pub life : m.keeps_promises → IsLife m ended typed typed_then files options shown shown_then start now how
 
--- it ended so, or the folder was not opened, and nothing was shown
+-- a life over the folder of a disk ended so, or the folder was not opened, and nothing was shown
 abbrev pub IsLifeOver : {D : Type 0} → DiskMeaning D → (D → Type 0) → Type 0 → List Typed → List Typed → Option (List NamedFile) → Options
     → List ShownLine → List ShownLine → Result Lived (Failure LiveFailure) → Type 0
 IsLifeOver m is_opened ended typed typed_then files options shown shown_then (Ok lived) =

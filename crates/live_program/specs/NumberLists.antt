@@ -10,10 +10,12 @@ pub record ListsRead : Type 0 where
   pub first : List ℕ
   pub lists : List (List ℕ)
 
+-- what was read, with the number before it
 abbrev pub with_number : ℕ → ListsRead → ListsRead
 with_number zero r = record { first = []; lists = r.first ∷ r.lists }
 with_number (suc n) r = record { first = n ∷ r.first; lists = r.lists }
 
+-- what was read of numbers, from the end
 abbrev pub lists_read : List ℕ → ListsRead
 lists_read [] = record { first = []; lists = [] }
 lists_read (n ∷ ns) = with_number n (lists_read ns)

@@ -26,7 +26,7 @@ abbrev pub with_table : List SetupEntry → SetupEntry → List SetupEntry
 with_table kept (Station script) = kept
 with_table kept entry = kept ++ entry ∷ []
 
--- an entry before those that are kept, where it is no station's
+-- an entry before those that are kept, if it is no station's
 abbrev pub before_tables : SetupEntry → List SetupEntry → List SetupEntry
 before_tables (Station script) kept = kept
 before_tables entry kept = entry ∷ kept

@@ -11,10 +11,11 @@ use Rattle.live_program.specs.Consoles.{shown_text, AppendsFront}
 use Rattle.live_stations.specs.Pairs.{AreFrom}
 use Rattle.live_stations.specs.declared.printer.Printer.{Printer}
 
--- the ends of a ring of answers
+-- the end of a ring of answers by which they are sent
 abbrev pub AnswerRing : Type 0
 AnswerRing = Producer (List ℕ) Global AnyItems
 
+-- the end of a ring of answers by which they are received
 abbrev pub AnswerEnd : Type 0
 AnswerEnd = Consumer (List ℕ) Global AnyItems
 
@@ -38,7 +39,7 @@ pub record IsHanded (shown : List ShownLine) (station : ℕ) (first ring : Answe
   pub ring_is : SameProducer first ring
   pub sent_is : sent ring ≡ shown_to station shown
 
--- and so of each station from this one on
+-- of each station from this one on, those of its answers were sent, by one end of one ring, that it was shown
 abbrev pub AreHandedFrom : List ShownLine → ℕ → List AnswerRing → List AnswerRing → Type 0
 AreHandedFrom shown n first rings = AreFrom (λ k f r. IsHanded shown k f r) n first rings
 
@@ -68,6 +69,6 @@ IsPrintedAt contents start (Some screen) lines all = HasShown start (contents sc
 abbrev pub IsPrintedBy : {W : Type 0} → (W → Option (List ℕ)) → Option (List ℕ) → Printer W → Type 0
 IsPrintedBy contents start e = IsPrintedAt contents start e.screen (received e.answers) e.all_printed
 
--- it was received by this end of a ring
+-- what a printer leaves: answers were received by this end of a ring, and were printed so
 abbrev pub IsPrinterEnd : {W : Type 0} → (W → Option (List ℕ)) → Option (List ℕ) → AnswerEnd → Printer W → Type 0
 IsPrinterEnd contents start first e = SameConsumer first e.answers × IsPrintedBy contents start e

@@ -10,7 +10,7 @@ use Rattle.live_stations.specs.Done.{AreNamed}
 use Rattle.live_stations.specs.Items.{Item, said, lines_of, seated_after}
 use Rattle.live_stations.specs.Pairs.{AreFrom}
 
--- that no more lines come was heard, or not
+-- whether it was heard that no more lines come
 abbrev pub over_mark : Bool → List Heard
 over_mark true = Over ∷ []
 over_mark false = []
@@ -50,9 +50,11 @@ pub record IsHearing (first hearings : List Hearing) (items : List Item) (seated
 abbrev pub is_over_of : Hearing → Bool
 is_over_of h = h.is_over && not (is_some h.ahead)
 
+-- no more lines of a station come, and each was taken
 abbrev pub IsOver : Hearing → Type 0
 IsOver h = is_over_of h ≡ true
 
+-- of no station more lines come, and each was taken
 abbrev pub AreOver : List Hearing → Type 0
 AreOver hearings = list_all is_over_of hearings ≡ true
 

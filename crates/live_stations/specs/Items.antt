@@ -20,6 +20,7 @@ abbrev pub item_line : Item → Typed
 item_line (named n) = station_line n
 item_line (said line) = line
 
+-- items, as the day reads them
 abbrev pub item_lines : List Item → List Typed
 item_lines items = map item_line items
 
@@ -45,6 +46,7 @@ abbrev pub unless_station : Bool → List ℕ → Typed
 unless_station true line = TooLong
 unless_station false line = Text line
 
+-- a line of a station's own keyboard, as the day has it: one that begins with `STATION` and a blank can't be read
 abbrev pub as_own : Typed → Typed
 as_own (Text line) = unless_station (is_station_word (take STATION_WORD_BYTES line)) line
 as_own TooLong = TooLong
@@ -57,6 +59,7 @@ numbers_of_item (said (Text line)) = 1 ∷ line
 numbers_of_item (said TooLong) = []
 numbers_of_item (said Cut) = 0 ∷ []
 
+-- the item that such a list of numbers is
 abbrev pub item_of_numbers : List ℕ → Item
 item_of_numbers [] = said TooLong
 item_of_numbers (zero ∷ (n ∷ rest)) = named n

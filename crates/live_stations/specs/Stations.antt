@@ -56,6 +56,7 @@ pub record IsUnused (e : StationEnds) : Type 0 where
   pub unsent : sent e.lines ≡ []
   pub untaken : received e.answers ≡ []
 
+-- nothing was sent or taken by the ends of each of these stations
 abbrev pub AreUnused : List StationEnds → Type 0
 AreUnused ends = AllByRecursion IsUnused ends
 
@@ -70,14 +71,15 @@ IsTypistOf typed types n first e = IsTypistEnd typed (types first.0 first.1) fir
 abbrev pub IsPrinterOf : {W T : Type 0} → (W → Option (List ℕ)) → (T → ℕ → Option (List ℕ)) → ℕ → T × ℕ × AnswerEnd → Printer W → Type 0
 IsPrinterOf contents reads n first e = IsPrinterEnd contents (reads first.0 first.1) first.2 e
 
--- and so those that had these
+-- what the threads that had these ends of the rings of lines have left
 abbrev pub HaveTyped : {K T : Type 0} → (K → List Typed) → (T → ℕ → Option (List ℕ)) → List (T × ℕ × LineRing) → List (Typist K) → Type 0
 HaveTyped typed types first ends = AreFrom (IsTypistOf typed types) 1 first ends
 
+-- what the threads that had these ends of the rings of answers have left
 abbrev pub HavePrinted : {W T : Type 0} → (W → Option (List ℕ)) → (T → ℕ → Option (List ℕ)) → List (T × ℕ × AnswerEnd) → List (Printer W) → Type 0
 HavePrinted contents reads first ends = AreFrom (IsPrinterOf contents reads) 1 first ends
 
--- and so the threads that had the ends of these stations
+-- what the threads that had the line ends of these stations have left
 abbrev pub HaveTypedFor : {K : Type 0} → (K → List Typed) → StationTexts → List StationEnds → List (Typist K) → Type 0
 HaveTypedFor typed types stations ends = AreFrom (λ n s e. IsTypistEnd typed (types s.station) s.lines e) 1 stations ends
 
@@ -99,6 +101,7 @@ pub record IsLeft {K W : Type 0} (typed : K → List Typed) (contents : W → Op
   pub all : all_heard ≡ true → unread ≡ []
   pub printed : IsPrintedAt contents (reads station) left.screen (shown_to station shown) left.all_printed
 
+-- each station, counted from 1, has left this
 abbrev pub HaveLeft : {K W : Type 0} → (K → List Typed) → (W → Option (List ℕ)) → StationTexts → StationTexts → List Item → List ShownLine → Bool
     → List (StationLeft K W) → Type 0
 HaveLeft typed contents types reads items shown all_heard stations = EachFrom (IsLeft typed contents types reads items shown all_heard) 1 stations
@@ -120,7 +123,7 @@ pub record IsAnswerRing (station : ℕ) (answers : AnswerRing) (e : StationEnds)
   pub unhanded : sent answers ≡ []
   pub untaken : received e.answers ≡ []
 
--- and so of each station from this one on
+-- of each station from this one on, the day has one end of each ring and the station the other, and nothing went through them
 pub record AreRings (n : ℕ) (hs : List Hearing) (rings : List AnswerRing) (es : List StationEnds) : Type 0 where
   pub lines : AreFrom (λ k h e. IsLineRing k h e) n hs es
   pub answers : AreFrom (λ k a e. IsAnswerRing k a e) n rings es
@@ -151,7 +154,7 @@ pub record AreMeeting {K W : Type 0} (typed : K → List Typed) (contents : W �
   pub handed : AreFrom (λ k a p. IsHandedToPrinter contents reads shown k a p) n rings ps
   pub over : all_heard ≡ true → AreOver hs
 
--- how a day of these items ended, with these lines shown
+-- how a day of these items ended, with these lines shown: as `run_program` says it of one keyboard
 abbrev pub IsLivedBy : {D : Type 0} → DiskMeaning D → (List ℕ → D → Type 0) → Option (List NamedFile) → List Text → Bool → List Item → List ShownLine
     → Result Lived (Ending (Failure LiveFailure)) → Type 0
 IsLivedBy m opens files words all_heard items shown (Ok lived) =

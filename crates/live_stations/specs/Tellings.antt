@@ -40,20 +40,22 @@ end_words (ended.Unread typing.Failed) = Some (codes "its lines can't be read an
 end_words (ended.Unread typing.NoMemory) = Some (codes "memory was refused for a line, and no more are read")
 end_words end = None
 
+-- what is said of a station, if there are words
 abbrev pub said_if_some : ℕ → Option (List ℕ) → List ℕ
 said_if_some station None = []
 said_if_some station (Some words) = station_said station words
 
+-- what is said of a station, unless this is so
 abbrev pub said_unless : Bool → ℕ → List ℕ → List ℕ
 said_unless true station words = []
 said_unless false station words = station_said station words
 
--- what there is to say of a station
+-- what is said of a station whose lines or answers were not all had
 abbrev pub station_text : ℕ → LinesEnd → Bool → List ℕ
 station_text station end all_printed =
     said_if_some station (end_words end) ++ said_unless all_printed station (codes "not all its answers were shown")
 
--- and of each from this one on
+-- what there is to say of each station from this one on
 abbrev pub stations_text : {K W : Type 0} → ℕ → List (StationLeft K W) → List ℕ
 stations_text n [] = []
 stations_text n (left ∷ stations) = station_text n left.end left.all_printed ++ stations_text (n + 1) stations
@@ -63,6 +65,7 @@ abbrev pub shows_all : LinesEnd → Bool → Bool
 shows_all ended.Unprinted all_printed = false
 shows_all end all_printed = all_printed
 
+-- a station, by what it has left, was shown all its answers, and would have been shown more
 abbrev pub is_shown_all : {K W : Type 0} → StationLeft K W → Bool
 is_shown_all left = shows_all left.end left.all_printed
 
@@ -76,8 +79,8 @@ abbrev pub IsThreadFault : ℕ → ThreadFault → Type 0
 IsThreadFault count (thread.NoThread station) = (1 ≤ station) × (station ≤ count)
 IsThreadFault count thread.NoMemory = Unit {0}
 
--- The end of a day was told: how many commands there were, on the one stream, or why it ended before its time, on the other, after what was said there at
--- its start and nothing else.
+-- The end of a day was told, with this exit status: how many commands there were, on the one stream, or why it ended before its
+-- time, on the other, after what was said there at its start and nothing else.
 pub record IsEndTold {O E : Type 0} (files : Option (List NamedFile)) (words : List Text) (printed : O → Option (List ℕ)) (said : E → Option (List ℕ))
     (old new : O) (first err : E) (ended : Result Lived (Ending (Failure LiveFailure))) (told : Told) : Type 0 where
   pub before : Option (List ℕ)

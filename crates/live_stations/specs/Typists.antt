@@ -22,10 +22,11 @@ use Rattle.rtrb.specs.declared.producer.Producer.{Producer}
 abbrev pub LineRing : Type 0
 LineRing = Producer Heard Global AnyItems
 
--- lines, as they are sent
+-- a line, as it is sent
 abbrev pub line_sent : Typed → Heard
 line_sent typed = Line (as_own typed)
 
+-- lines, as they are sent
 abbrev pub lines_sent : List Typed → List Heard
 lines_sent lines = map line_sent lines
 
@@ -72,6 +73,6 @@ pub record IsSentBy {K : Type 0} (typed : K → List Typed) (text : Option (List
   pub end : IsRest e.end rest
   pub are : AreTyped text (typed_at typed e.keyboard) e.end
 
--- it was sent by this end of a ring
+-- what a typist leaves: what was typed of the text was sent, by this end of a ring
 abbrev pub IsTypistEnd : {K : Type 0} → (K → List Typed) → Option (List ℕ) → LineRing → Typist K → Type 0
 IsTypistEnd typed text first e = SameProducer first e.lines × IsSentBy typed text e

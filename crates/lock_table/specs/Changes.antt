@@ -40,20 +40,20 @@ abbrev pub TakingKeepsApart : List Lock → ℕ → ℕ → List ℕ → Type 0
 TakingKeepsApart locks station table numbers =
     AreRecordNumbers numbers → free_records locks station table numbers ≡ true → StayApart locks (with_records locks station table numbers)
 
--- then its lock on each of them is held
+-- when the station has taken the records of a list, its lock on each of them is held
 abbrev pub TakingHoldsEach : List Lock → ℕ → ℕ → List ℕ → Type 0
 TakingHoldsEach locks station table numbers = (n : ℕ) → IsListed numbers n → IsHeld (with_records locks station table numbers) (lock_of table station n)
 
--- and each of its locks in the table is on one of them
+-- when the station has taken the records of a list, each of its locks in the table is on one of them
 abbrev pub TakingHoldsOnly : List Lock → ℕ → ℕ → List ℕ → Type 0
 TakingHoldsOnly locks station table numbers =
     (l : Lock) → IsHeld (with_records locks station table numbers) l → is_own station table l ≡ true → IsOnListed station table numbers l
 
--- each lock that isn't its own in the table stays
+-- when the station takes the records of a list, each lock that isn't its own in the table stays
 abbrev pub TakingKeepsOthers : List Lock → ℕ → ℕ → List ℕ → Type 0
 TakingKeepsOthers locks station table numbers = KeepsOthers locks (with_records locks station table numbers) station table
 
--- and each lock is its own on one of them, or was held before
+-- when the station has taken the records of a list, each lock is its own on one of them, or was held before
 abbrev pub TakingAddsOnly : List Lock → ℕ → ℕ → List ℕ → Type 0
 TakingAddsOnly locks station table numbers =
     (l : Lock) → IsHeld (with_records locks station table numbers) l → IsOnListed station table numbers l ⊎ IsHeld locks l

@@ -40,7 +40,7 @@ MayStep SyncFolder = λ old new. new ≡ old
 MayStep (WriteAt name offset bytes) = MayTear name offset (length bytes)
 MayStep (SyncInPlace name) = λ old new. new ≡ old
 
--- whether the bytes of the name's file are kept
+-- whether the bytes of the name's file are kept: `AreKept` as the code tests it
 abbrev pub are_kept : List DiskCall → Name → Bool
 are_kept [] n = true
 are_kept (Create name ∷ before) n = if bytes_eq name n then false else are_kept before n

@@ -139,7 +139,7 @@ only_now [] c left = left
 only_now (call ∷ before) c (inl now) = now
 only_now (call ∷ before) c (inr earlier) = absurd (omega (arith, earlier.0))
 
--- what a disk in memory means
+-- what a disk in memory means; its laws say that these outcomes follow the model of a disk
 abbrev pub memory_meaning : DiskMeaning DiskHistory
 memory_meaning = record {
   keeps_promises = Unit {0};

@@ -4,6 +4,6 @@ use Rattle.ndx_index.specs.Order.{before}
 use Rattle.ndx_index.specs.declared.pair.Pair.{Pair}
 use Rattle.ndx_index.specs.declared.pages.bound.Bound.{Bound}
 
--- the pair doesn't stand before the bound
+-- the pair stands where a search by the bound begins, or after
 abbrev pub passes : Bound → Pair → Bool
 passes b q = not (before q (record { key = b.key.now; number = b.number }))

@@ -3,7 +3,7 @@ use Rattle.std.specs.Prelude.{ℕ, List, codes}
 use Rattle.ndx_index.specs.declared.fault.NdxFault.{NdxFault}
 use Rattle.ndx_index.specs.declared.fault.NdxFault.TheVariants as fault
 
--- the name of its variant, without what it carries
+-- the name of a fault, without a number that it carries
 abbrev pub ndx_name : NdxFault → List ℕ
 ndx_name fault.Truncated = codes "Truncated"
 ndx_name fault.NumericIndex = codes "NumericIndex"

@@ -34,7 +34,8 @@ header_numbers bytes = record {
 abbrev pub layout_of : HeaderNumbers → PageLayout
 layout_of numbers = record { key_len = numbers.key_len; size = numbers.record_size }
 
--- each test of a key's length and a key record's size, without which no page can be read, beside the fault that it is for
+-- each test of the layout, a key's length and a key record's size, without which no page can be read, beside the fault that it is
+-- for
 abbrev pub layout_tests : ℕ → ℕ → List (Bool × NdxFault)
 layout_tests key_len size =
     (is_in_range 1 MAX_KEY_BYTES key_len, BadKeyLength)
@@ -92,7 +93,8 @@ abbrev pub IsBadPage : List ℕ → BadPage → Type 0
 IsBadPage bytes bad =
     (header_refusal bytes ≡ None) × (pages : List ℕ) × (pairs : List Pair) × Visits (ndx_header bytes).layout bytes [] ((ndx_header bytes).root ∷ []) pages pairs (Some bad)
 
--- this is the page at which the walk breaks this rule, and none before it; where there is none, the header page breaks it
+-- The page of a file that is refused: the one at which the walk breaks this rule, and none before it; where there is none, the
+-- header page breaks it.
 abbrev pub IsRefusedPage : List ℕ → NdxFault → Option ℕ → Type 0
 IsRefusedPage bytes why None = header_refusal bytes ≡ Some why
 IsRefusedPage bytes why (Some page) = IsBadPage bytes (record { page = page; why = why })

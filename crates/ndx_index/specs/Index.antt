@@ -3,7 +3,7 @@ use Rattle.std.specs.Prelude.{◌≡◌, ℕ, List, length}
 use Rattle.std.specs.List.{AllByRecursion}
 use Rattle.ndx_index.specs.declared.pair.Pair.{Pair}
 
--- the length of its keys, the pairs in order, and how many inserts there is room for
+-- an ordered index as contracts see it: the length of its keys, its pairs in order, and how many inserts there is room for
 pub record Index : Type 0 where
   pub key_len : ℕ
   pub pairs : List Pair

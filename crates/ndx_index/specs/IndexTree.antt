@@ -50,7 +50,7 @@ Parted (ps ∷ []) (k ∷ ks) = ⊥
 Parted (ps ∷ qs ∷ pss) [] = ⊥
 Parted (ps ∷ qs ∷ pss) (k ∷ ks) = AllBefore k ps × AllFrom k qs × Parted (qs ∷ pss) ks
 
--- The pages are there, no leaf is empty, and an inner page's keys part its children.
+-- When pages make a tree: the pages are there, no leaf is empty, and an inner page's keys part its children.
 abbrev pub IsTree : ℕ → List Page → ℕ → Type 0
 IsTree zero a p = (p < length a) × (0 < length (page_in a p).pairs)
 IsTree (suc d) a p = (p < length a)
@@ -79,6 +79,7 @@ abbrev pub AreFree : ℕ → List Page → ℕ → Type 0
 AreFree zero a p = Unit {0}
 AreFree (suc n) a p = (p < length a) × (0 < length (page_in a p).links) × AreFree n a (next_free_page (page_in a p))
 
+-- the free pages: a list of so many pages, which begins at its head
 abbrev pub IsFreeList : List Page → FreeList → Type 0
 IsFreeList a f = AreFree f.count a f.head
 

@@ -7,7 +7,7 @@ use Rattle.std.specs.List.{starts_with}
 use Rattle.std.specs.List.Sorted.{IsStrictlySortedBy}
 use Rattle.ndx_index.specs.declared.pair.Pair.{Pair}
 
--- by the keys' bytes, and then by the record numbers
+-- how two pairs stand: by their keys' bytes, and then by the record numbers
 abbrev pub pair_cmp : Pair → Pair → Ordering
 pair_cmp a b = ordering_then (slice_cmp nat_cmp a.key b.key) (nat_cmp a.number b.number)
 

@@ -4,10 +4,12 @@ use Rattle.std.specs.List.{remove}
 use Rattle.ndx_index.specs.declared.pair.Pair.{Pair}
 use Rattle.ndx_index.specs.declared.pages.store.PageStore.TheInside.{Inside}
 
+-- a page of pairs and links
 pub record Page : Type 0 where
   pub pairs : List Pair
   pub links : List ℕ
 
+-- pages of pairs and links, with keys of one length
 pub record Store : Type 0 where
   pub key_len : ℕ
   pub pages : List Page

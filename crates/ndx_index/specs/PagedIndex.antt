@@ -12,8 +12,8 @@ use Rattle.ndx_index.specs.PageStore.{Page}
 abbrev pub index_view : Inside → Index
 index_view x = record { key_len = x.store.key_len; pairs = pairs_in x.store.pages x.root; spare = if nat_lt x.root.levels x.free.count then 1 else 0 }
 
--- A tree of pairs in order, whose keys have this length, and free pages. Each page is in the tree or free, and once: none
--- is used twice, and none is lost.
+-- What every ordered index keeps: a tree of pairs in order, whose keys have this length, and free pages. Each page is in the tree
+-- or free, and once: none is used twice, and none is lost.
 pub record HoldsIndex (key_len : ℕ) (a : List Page) (f : FreeList) (t : Root) : Type 0 where
   pub tree : IsTreeIn a t
   pub order : AreInOrder (pairs_in a t)

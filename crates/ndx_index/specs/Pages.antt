@@ -45,6 +45,7 @@ abbrev pub some_child : (ℕ → Bool) → PageLayout → List ℕ → ℕ → B
 some_child test s page zero = false
 some_child test s page (suc n) = some_child test s page n || test (child s page n)
 
+-- what a page holds: the pairs of a leaf, or the pages under an inner page
 pub data Node : Type 0 where
   leaf : List Pair → Node
   inner : List ℕ → Node
@@ -70,7 +71,7 @@ inner_tests s page n =
     ∷ (not (some_child is_null s page (n + 1)), MixedPage)
     ∷ []
 
--- and of any page
+-- the tests of any page of 512 bytes, a leaf or an inner one
 unfoldable pub page_tests : PageLayout → List ℕ → List (Bool × NdxFault)
 page_tests s page = if is_leaf s page then leaf_tests s page (u32_at page 0) else inner_tests s page (u32_at page 0)
 

@@ -11,7 +11,7 @@ pub record Pages : Type 0 where
   pub pages : List (List Pair)
   pub spare : ℕ
 
--- the pairs of each page stand in the first of its sixteen slots
+-- sixteen slots as a page: the pairs of each page stand in the first of its slots
 abbrev pub pages_of : List ℕ → List Pair → List (List Pair)
 pages_of [] ps = []
 pages_of (c ∷ cs) ps = take c ps ∷ pages_of cs (drop PLACES ps)

@@ -10,7 +10,7 @@ pub record Slots : Type 0 where
   pub pairs : List Pair
   pub spare : ℕ
 
--- each number with the next k bytes
+-- runs of bytes as pairs: each number with the next k bytes
 abbrev pub slot_pairs : ℕ → List ℕ → List ℕ → List Pair
 slot_pairs k keys [] = []
 slot_pairs k keys (n ∷ ns) = record { key = take k keys; number = n } ∷ slot_pairs k (drop k keys) ns

@@ -108,6 +108,7 @@ pub record CanInsert (d : ℕ) (a : List Page) (f : FreeList) (p : ℕ) (pair : 
   pub enough : d ≤ f.count
   pub absent : Contains (pairs_under d a p) pair → ⊥
 
+-- a step has put the pair among those under p
 pub record Inserts (d : ℕ) (a b : List Page) (f g : FreeList) (p : ℕ) (pair : Pair) : Type 0 where
   pub pairs : pairs_under d b p ≡ with_pair pair (pairs_under d a p)
   pub keeps : Keeps d a b f g p
@@ -127,6 +128,7 @@ pub record CanRemove (d : ℕ) (a : List Page) (f : FreeList) (p : ℕ) (pair : 
   pub count_bounded : length a < 2 ^ 32
   pub held : Contains (pairs_under d a p) pair
 
+-- a step has taken the pair out of those under p, and no fewer pages are free
 pub record Removes (d : ℕ) (a b : List Page) (f g : FreeList) (p : ℕ) (pair : Pair) : Type 0 where
   pub pairs : pairs_under d b p ≡ without_pair pair (pairs_under d a p)
   pub keeps : Keeps d a b f g p

@@ -9,7 +9,7 @@ use Rattle.ndx_index.specs.declared.read.view.PageView.TheVariants.{Leaf, Inner,
 use Rattle.ndx_index.specs.NdxTree.{is_visited, look}
 use Rattle.ndx_index.specs.Pages.{Node, leaf, inner, children, leaf_pairs}
 
--- what a view says that a page holds
+-- what a view says that a page holds, or which rule it breaks
 abbrev pub node_seen : PageView → Result Node NdxFault
 node_seen (Leaf page) = Ok (leaf (leaf_pairs page.layout page.bytes.now page.count))
 node_seen (Inner page) = Ok (inner (children page.layout page.bytes.now page.count))
@@ -21,7 +21,7 @@ HasKeyLength key_len (Leaf page) = key_len ≡ page.layout.key_len
 HasKeyLength key_len (Inner page) = key_len ≡ page.layout.key_len
 HasKeyLength key_len (Broken fault) = Unit {0}
 
--- a page that holds something is met now
+-- the pages that a walk has met, with one more if the page holds something
 abbrev pub met_with : List ℕ → ℕ → Result Node NdxFault → List ℕ
 met_with met p (Ok node) = p ∷ met
 met_with met p (Err fault) = met
@@ -36,7 +36,7 @@ pages_under (Err fault) = []
 abbrev pub at_depth : ℕ → List ℕ → List PageAt
 at_depth depth pages = map (λ p. record { page = p; depth = depth }) pages
 
--- the file, which of its pages were met, and the pages that the walk is to come to, the next one first
+-- a walk over the pages of a file of any bytes: the file, which of its pages it met, and which it is to come to, the next one first
 pub record Walk : Type 0 where
   pub bytes : List ℕ
   pub layout : PageLayout
@@ -72,6 +72,7 @@ pub record IsStep (old : Walk) (at : PageAt) (node : Result Node NdxFault) (new 
 abbrev pub work_left : List Bool → List PageAt → ℕ
 work_left flags pending = 2 * PAGE * count_by not flags + length pending
 
+-- how much of a walk is left, which falls with each step
 abbrev pub work_of : Walk → ℕ
 work_of walk = work_left walk.flags walk.pending
 

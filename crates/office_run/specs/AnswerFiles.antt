@@ -31,7 +31,7 @@ pub record HasAnswers (is_there : NamedFile → Type 0) (opened : Opened) (journ
   pub report : IsReport opened journal station script text
   pub answers : without_rows report.shown ≡ map answered (of_station journal station)
 
--- so it is of each station of a history, where these are the scripts
+-- the file of each station's answers is there, of each station of a history, where these are the scripts
 abbrev pub AllHaveAnswers : (NamedFile → Type 0) → History → List (List ℕ) → Type 0
 AllHaveAnswers is_there h scripts =
     (i : ℕ) → i < h.opened.stations → (script : List ℕ) × (slice_get scripts i ≡ Some script) × HasAnswers is_there h.opened h.journal (i + 1) script
@@ -49,7 +49,7 @@ WritesAnswers files setup =
     (reindex : Bool) (today : Day) (journal : Bool) (written : List NamedFile) (counts : CommandCounts)
     (served : IsServed files setup reindex today journal written counts) → AllHaveAnswers (Contains written) served.run.history served.run.read.scripts
 
--- and, where the journal is asked for, the entries that were answered so
+-- if the journal is asked for, the files of a run have the entries of its journal that were answered so
 abbrev pub WritesEntries : Option (List NamedFile) → List ℕ → Type 0
 WritesEntries files setup =
     (reindex : Bool) (today : Day) (written : List NamedFile) (counts : CommandCounts)

@@ -7,7 +7,7 @@ use Rattle.ndx_index.specs.declared.pair.Pair.{Pair}
 use Rattle.ndx_index.specs.Index.{HaveLength}
 use Rattle.ndx_index.specs.Order.{AreInOrder}
 
--- its name, the text of its key expression, the length of its keys, and its pairs
+-- an index: its name, the text of its key expression, the length of its keys, and its pairs
 pub record IndexContent : Type 0 where
   pub name : List ℕ
   pub text : List ℕ

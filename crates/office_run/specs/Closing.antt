@@ -72,7 +72,7 @@ abbrev pub first_blocked : ℕ → List ClosedTable → Option ℕ
 first_blocked number [] = None
 first_blocked number (closed ∷ rest) = if has_too_many closed.content then Some number else first_blocked (number + 1) rest
 
--- the year can be told, and the table of this number is the first that has too many blocks
+-- a header can have the year, and the table of this number is the first that has too many blocks
 abbrev pub IsBlockedBy : ℕ → List ClosedTable → ℕ → Type 0
 IsBlockedBy year tables number = ¬ IsOutside year × (first_blocked 1 tables ≡ Some number)
 

@@ -10,7 +10,7 @@ abbrev pub is_refusal : Answer → Bool
 is_refusal (Refused refusal) = true
 is_refusal answer = false
 
--- the command was refused
+-- the command was refused: its entry in the journal has a refusal as its answer
 abbrev pub is_refused : Entry → Bool
 is_refused entry = is_refusal entry.answer
 

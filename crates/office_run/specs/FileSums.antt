@@ -9,11 +9,11 @@ use Rattle.office_run.specs.WholeRun.{IsSaid}
 
 -- ---- what is read
 
--- the paths of the files that entries name, in the order in which these are read
+-- the paths of the files that entries name, in the order of reading
 abbrev pub paths_in : List SetupEntry → List (List ℕ)
 paths_in entries = flat_map paths_of entries
 
--- the setup was read, and then what it names
+-- of the setup, and of each file that it names, one after another, the length and the digest were noted
 pub record AreAllNoted (files : Option (List NamedFile)) (setup : List ℕ) (old new : Option (List FileSum)) : Type 0 where
   pub entries : List SetupEntry
   pub said : IsSaid files setup (Ok entries)

@@ -25,7 +25,7 @@ pub record IsIndexFor (fields : List Field) (index : Indexed) : Type 0 where
 abbrev pub closed_with : HandedIndex → IndexContent
 closed_with index = index_with index.name index.expr index.pairs
 
--- its expression was read for these fields
+-- the expression of an index that a table has handed over was read for these fields
 abbrev pub WasReadFor : List Field → HandedIndex → Type 0
 WasReadFor fields index = IsIndexFor fields (record { name = index.name; expr = index.expr })
 

@@ -26,6 +26,7 @@ journal_name = codes "JOURNAL.TXT"
 abbrev pub journal_under : List ℕ → List ℕ → NamedFile
 journal_under name text = record { name = name; bytes = text }
 
+-- the file JOURNAL.TXT with a text
 abbrev pub journal_file : List ℕ → NamedFile
 journal_file text = journal_under journal_name text
 
@@ -42,7 +43,7 @@ all_files today tables answers text = and_journal (run_files today tables answer
 abbrev pub told_run : List FileSum → Bool → List Entry → List NamedFile → WholeJournal
 told_run read reindex journal wrote = record { read = read; reindex = reindex; entries = map line_parts journal; wrote = map sum_of_named wrote }
 
--- the text of this journal
+-- the text of the journal of a run
 abbrev pub run_text : List FileSum → Bool → List Entry → List NamedFile → List ℕ
 run_text read reindex journal wrote = whole_text (told_run read reindex journal wrote)
 
@@ -73,7 +74,7 @@ pub record PutsAllBut {S : Type 0} {g : _} (old : SinkWriter S g) (bytes left : 
 abbrev pub PutsFront : {S : Type 0} {g : _} → SinkWriter S g → List ℕ → SinkWriter S g → Type 0
 PutsFront old bytes new = (left : List ℕ) × PutsAllBut old bytes left new
 
--- why it is not written, or not whole: the folder failed at it, or memory was refused
+-- why the journal's file is not written, or not whole: the folder failed at it, or memory was refused
 abbrev pub IsJournalFault : ServeFault → Type 0
 IsJournalFault NoMemory = Unit {0}
 IsJournalFault (Close (Write name)) = name ≡ journal_name

@@ -107,7 +107,7 @@ abbrev pub load_fault : LoadRefusal → FileFault
 load_fault refusal.CannotRead = CannotRead
 load_fault refusal.Unrecovered = Unrecovered
 
--- and of the files of an entry that are refused
+-- why the files of an entry are refused, as a fault of loading
 abbrev pub file_fault : EntryFault → FileFault
 file_fault (Unloaded why) = load_fault why
 file_fault (UnloadedMemos why) = load_fault why

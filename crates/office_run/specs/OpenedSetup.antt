@@ -16,13 +16,13 @@ pub record IsOpenedFrom (reindex : Bool) (read : Read) (opened : Opened) : Type 
   pub opening : Opening reindex (length read.scripts) read.tables (Ok opened.tables)
   pub stations : opened.stations ≡ length read.scripts
 
--- why they are not opened
+-- why the tables that a setup names are not opened: the faults of a run up to its opening
 abbrev pub IsOpenFault : Bool → Read → ServeFault → Type 0
 IsOpenFault reindex read NoMemory = Unit {0}
 IsOpenFault reindex read (Refused fault) = (fault ≢ NoMemoryToOpen) × Opening reindex (length read.scripts) read.tables (Err fault)
 IsOpenFault reindex read fault = ⊥
 
--- these are the tables that the setup of this path names, opened for a station a script
+-- these are the tables that the setup of this path names, read and opened for a station a script, as a run opens them
 pub record IsOpenedBy (files : Option (List NamedFile)) (setup : List ℕ) (reindex : Bool) (opened : Opened) : Type 0 where
   pub read : Read
   pub all : IsAllRead files setup read
@@ -38,7 +38,7 @@ IsUnopened files setup reindex fault = ⊥
 
 -- ---- opened again
 
--- whenever the setup of this path is read, it opens as the same tables, for the same number of stations
+-- a setup opens as the same tables, for the same number of stations, whenever it is read from the same files
 abbrev pub OpensAsOne : List NamedFile → List ℕ → Type 0
 OpensAsOne files setup = (reindex : Bool) (a b : Opened) → IsOpenedBy (Some files) setup reindex a → IsOpenedBy (Some files) setup reindex b → a ≡ b
 
@@ -51,13 +51,13 @@ abbrev pub OpensAsBefore : List NamedFile → List NamedFile → List ℕ → Ty
 OpensAsBefore files later setup =
     (reindex : Bool) (opened : Opened) → IsOpenedBy (Some files) setup reindex opened → IsOpenedBy (Some later) setup reindex opened
 
--- it is said that memory was refused, or that a file can't be read
+-- a fault says that memory was refused, or that a file can't be read
 abbrev pub IsOfLoads : ServeFault → Type 0
 IsOfLoads NoMemory = Unit {0}
 IsOfLoads (File path CannotRead) = Unit {0}
 IsOfLoads fault = ⊥
 
--- what the setup opens as once, it is refused as only for want of memory, or since a file can't be read
+-- what a setup opens as once, it is refused as only out of memory, or since a file can't be read
 abbrev pub NeverRefused : List NamedFile → List ℕ → Type 0
 NeverRefused files setup =
     (reindex : Bool) (opened : Opened) → IsOpenedBy (Some files) setup reindex opened

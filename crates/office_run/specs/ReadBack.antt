@@ -58,7 +58,7 @@ pub record IsIndexReadBack (index : IndexContent) (source : IndexSource) : Type 
   pub named : source.name ≡ index.name
   pub read : IsIndex (index_bytes index) source.file.expr source.file.key_len source.file.pairs.pairs
 
--- so are indexes, one by one
+-- indexes are read, one by one, from the files that were written of them
 abbrev pub AreIndexesReadBack : List IndexContent → List IndexSource → Type 0
 AreIndexesReadBack [] [] = Unit {0}
 AreIndexesReadBack (index ∷ indexes) (source ∷ sources) = IsIndexReadBack index source × AreIndexesReadBack indexes sources
@@ -70,7 +70,7 @@ pub record IsTableReadBack (year month day : ℕ) (closed : ClosedTable) (source
   pub content : IsDbf (image closed.content year month day) (memos_of closed.content) source.content
   pub indexes : AreIndexesReadBack closed.indexes.items source.indexes.items
 
--- so are tables, one by one
+-- tables and their indexes are read, one by one, from the files that were written of them
 abbrev pub AreTablesReadBack : ℕ → ℕ → ℕ → List ClosedTable → List TableSource → Type 0
 AreTablesReadBack year month day [] [] = Unit {0}
 AreTablesReadBack year month day (closed ∷ tables) (source ∷ sources) = IsTableReadBack year month day closed source × AreTablesReadBack year month day tables sources
@@ -92,7 +92,7 @@ pub record IsOpenedAsLeft (h : History) (number : ℕ) (table : NamedTable) : Ty
   pub named : slice_get (names_of h.opened) (number - 1) ≡ Some table.name
   pub content : table.content ≡ with_trimmed (end_of h number)
 
--- so are all of the catalogue's tables, in their order
+-- all of the catalogue's tables are opened as they were at the history's end, in their order
 pub record AreOpenedAsLeft (h : History) (opened : List NamedTable) : Type 0 where
   pub count : length opened ≡ length h.opened.tables
   pub each : (i : ℕ) → i < length h.opened.tables → (table : NamedTable) × (slice_get opened i ≡ Some table) × IsOpenedAsLeft h (i + 1) table

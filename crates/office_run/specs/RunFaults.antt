@@ -27,7 +27,8 @@ IsFaultOfStart opened (NoThread station) = IsStationOf opened station
 IsFaultOfStart opened NoMemory = Unit {0}
 IsFaultOfStart opened fault = ⊥
 
--- a fault of a run names a station that there is; each station has its seat, so that a run that comes to its end is settled
+-- Why a run of scripts did not come to its end. A fault names a station that there is. Each station has its seat, so a run that
+-- comes to its end is settled.
 abbrev pub IsFaultOfRun : Opened → List (List ℕ) → RunFault → Type 0
 IsFaultOfRun opened scripts ScriptCount = length scripts ≢ opened.stations
 IsFaultOfRun opened scripts (NoThread station) = IsStationOf opened station

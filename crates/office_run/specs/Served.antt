@@ -23,7 +23,7 @@ use Rattle.office_run.specs.WholeRun.{IsWholeRun}
 abbrev pub asked_files : Bool → Day → List ClosedTable → List (List ℕ) → List ℕ → List NamedFile
 asked_files journal today tables answers text = if journal then all_files today tables answers text else run_files today tables answers
 
--- where the journal is asked for, the text tells what was read, performed and written, and nothing else, and a file of it can be read
+-- if the journal is asked for, its text says what was read, performed and written, and nothing else, and a file of it can be read
 abbrev pub IsAskedText : Option (List NamedFile) → List ℕ → Bool → Bool → List Entry → List NamedFile → List ℕ → Type 0
 IsAskedText files setup reindex journal entries wrote text =
     journal ≡ true → (told : IsJournalText files setup reindex entries wrote text) × CanBeTold (told_run told.read reindex entries wrote) × length text ≤ MAX_FILE_BYTES
@@ -35,8 +35,9 @@ files_to_write asked tables answers entries read =
 
 -- ---- the whole
 
--- A whole run came to its end, and these are its files: those of its tables and answers, and that of its journal where it is
--- asked for. So many commands were performed and refused, and none of the tables has more blocks than its file can have.
+-- A whole run came to its end, and these are its files: those of its tables and answers, and that of its journal if it is asked
+-- for. So many commands were performed and refused, as counted, and none of the tables has more blocks than its file can have. That
+-- these files stand after what was written before is `IsListedAfter` of folders.
 pub record IsServed (files : Option (List NamedFile)) (setup : List ℕ) (reindex : Bool) (today : Day) (journal : Bool)
     (written : List NamedFile) (counts : CommandCounts) : Type 0 where
   pub tables : List ClosedTable
@@ -58,7 +59,7 @@ UnlessBegun journal fault holds = (journal ≡ true → fault ≢ NoMemory) → 
 abbrev pub IsHeld : Bool → List ℕ → Type 0 → Type 0
 IsHeld journal name holds = (journal ≡ true) × (name ≡ journal_name) × holds
 
--- All files are held back, and this name is that of the journal's, whose text has more bytes than a file that is read may have.
+-- No file is begun. This name is that of the journal's file, whose text has more bytes than a file that is read may have.
 pub record IsHeldBack (name : List ℕ) (files : List NamedFile) (old new : Option (List ℕ)) : Type 0 where
   pub name_is : name ≡ journal_name
   pub others : List NamedFile

@@ -32,7 +32,7 @@ pub record AreTablesWritten (h : History) (today : Day) (old new : Option (List 
   pub told : files_in (listing (dated_files today tables)) ≡ dated_files today tables
   pub summed : sums ≡ map sum_of_named (dated_files today tables)
 
--- the same, where nothing is told of the files
+-- the tables and indexes at a history's end are written, and nothing is told of their files
 abbrev pub AreTablesPut : History → Day → Option (List ℕ) → Option (List ℕ) → Type 0
 AreTablesPut h today old new = (sums : List FileSum) × AreTablesWritten h today old new sums
 

@@ -98,15 +98,16 @@ IsWriteFault year tables (Close (TooManyBlocks number)) = first_blocked 1 tables
 IsWriteFault year tables (Close (Write name)) = Unit {0}
 IsWriteFault year tables fault = ⊥
 
--- where one of these files could not be written, those before it are whole; of other faults nothing is said
+-- if a file of the tables and answers could not be written, those before it are whole, and of it at most a front part is there; of
+-- other faults nothing is said
 abbrev pub IsCutWriting : List NamedFile → Option (List ℕ) → Option (List ℕ) → ServeFault → Type 0
 IsCutWriting files old new (Close fault) = IsCutBy files old new fault
 IsCutWriting files old new fault = Unit {0}
 
 -- ---- the whole
 
--- what the setup names was read, the scripts were run, and these are the tables and answers that are left, and
--- the number of commands: no more than a journal's entries may be
+-- A whole run: what the setup names was read and opened, the scripts were run, and these are the tables and answers that are left,
+-- whose files are written, and the number of commands, no more than a journal's entries may be.
 pub record IsWholeRun (files : Option (List NamedFile)) (setup : List ℕ) (reindex : Bool) (tables : List ClosedTable) (answers : List (List ℕ)) (count : ℕ) : Type 0 where
   pub read : Read
   pub history : History
@@ -118,7 +119,7 @@ pub record IsWholeRun (files : Option (List NamedFile)) (setup : List ℕ) (rein
   pub handed : AreHandedOver history tables
   pub counted : count ≡ length history.journal
 
--- why a whole run does not come to its end
+-- why a whole run does not come to its end, step by step
 abbrev pub IsServeFault : Option (List NamedFile) → List ℕ → Bool → ℕ → ServeFault → Type 0
 IsServeFault files setup reindex year NoMemory = Unit {0}
 IsServeFault files setup reindex year (Setup number) = IsReadFault files setup (Setup number)

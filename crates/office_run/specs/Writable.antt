@@ -11,7 +11,7 @@ use Rattle.office_run.specs.declared.content.Content.TheVariants.{Table as OfTab
 abbrev pub has_too_many : Table → Bool
 has_too_many table = nat_lt 4294967295 (next_free table)
 
--- it can be written: a header can tell the year of a table's date, and 32 bits count the blocks of its memos
+-- a table can be written: a header can have the year of its date, and 32 bits count the blocks of its memos
 abbrev pub CanBeWritten : Content → Type 0
 CanBeWritten (OfTable table day) = ¬ IsOutside day.year × (has_too_many table.now ≡ false)
 CanBeWritten (Memos table) = has_too_many table.now ≡ false

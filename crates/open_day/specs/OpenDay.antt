@@ -33,7 +33,7 @@ IsEntryCount log None = (entries : List LineParts) → StandsFor log entries →
 abbrev pub closed_log : ℕ → List ℕ
 closed_log count = SHUT_GATE ∷ (decimal count ++ (codes " commands" ++ LF ∷ []))
 
--- the log is that of no such day
+-- the log is that of no day that was closed with a count of commands
 abbrev pub TellsNoCount : List ℕ → Type 0
 TellsNoCount log = (count : ℕ) → count < 2 ^ 64 → log ≢ closed_log count
 

@@ -19,7 +19,7 @@ program_app name = record (new_app name) { top = record (new_app name).top { has
 abbrev pub option_rule : Text → Rule
 option_rule name = record (new_rule name) { long = Some name; action = Some Set; value_names = 1; parser = Some NonEmptyString }
 
--- one that has to be given
+-- an option that has to be given
 abbrev pub required_rule : Text → Rule
 required_rule name = record (option_rule name) { required = true }
 
@@ -29,7 +29,7 @@ flag_rule name = record (new_rule name) { long = Some name; action = Some SetTru
 
 -- ---- as they are read
 
--- the rows of a command's options
+-- what `clap` has read: a row for each option that is there
 abbrev pub option_rows : ArgMatches → List Row
 option_rows matches = rows_of (found_of matches)
 

@@ -15,26 +15,26 @@ use Rattle.program_frame.specs.Telling.{mistake_line, mistake_status, no_text_li
 
 -- ---- of a program that puts new files in place, where this is told of its work
 
--- the exit status: 1 for the date, 4 for the folder
+-- the exit status of a program that puts new files in place, if it failed: 1 for the date, 4 for the folder
 abbrev pub failure_status : {F : Type 0} → (F → ℕ) → Failure F → ℕ
 failure_status status failure.BadDate = 1
 failure_status status (failure.Work fault) = status fault
 failure_status status (failure.Folder fault) = 4
 
--- why it failed
+-- why such a program failed, in words
 abbrev pub failure_words : {F : Type 0} → (F → List ℕ) → Failure F → List ℕ
 failure_words words failure.BadDate = codes "bad date"
 failure_words words (failure.Work fault) = words fault
 failure_words words (failure.Folder fault) = folder_reason fault
 
--- why new files are not in place
+-- the failure of such a program if new files are not in place
 abbrev pub place_failure : {F : Type 0} → F → PlaceFault → Failure F
 place_failure no_memory place.NoMemory = failure.Work no_memory
 place_failure no_memory (place.Folder fault) = failure.Folder fault
 
 -- ---- of any program, where this is told of a failure
 
--- the exit status
+-- of any program, the exit status of a call that has not done what it was asked for
 abbrev pub ending_status : {F : Type 0} → (F → ℕ) → Ending F → ℕ
 ending_status status ended.NoText = no_text_status
 ending_status status (ended.CommandLine error) = mistake_status (kind_of error)
@@ -44,7 +44,7 @@ ending_status status (ended.Failed why) = status why
 abbrev pub program_line : List ℕ → List ℕ → List ℕ
 program_line program words = program ++ (codes ": " ++ (words ++ LF ∷ []))
 
--- on standard error; `None` where it is a text of `clap`
+-- of any program, the line of such a call on standard error; `None` if it is a text of `clap`
 abbrev pub ending_line : {F : Type 0} → (F → List ℕ) → F → List ℕ → Ending F → Option (List ℕ)
 ending_line words no_memory program ended.NoText = Some no_text_line
 ending_line words no_memory program (ended.CommandLine error) = mistake_line (program_line program (words no_memory)) (kind_of error)

@@ -11,6 +11,7 @@ use Rattle.office_run.specs.declared.run_fault.RunFault.TheVariants as run
 use Rattle.office_run.specs.declared.close_fault.CloseFault.{CloseFault}
 use Rattle.office_run.specs.declared.close_fault.CloseFault.TheVariants as close
 
+-- the name of a fault of opening, without what it carries
 abbrev pub open_name : OpenFault → List ℕ
 open_name opening.NoStation = codes "NoStation"
 open_name opening.TooManyStations = codes "TooManyStations"
@@ -30,7 +31,8 @@ abbrev pub settle_name : SettleFault → List ℕ
 settle_name (settle.SeatMissing station) = codes "SeatMissing"
 settle_name (settle.ReceiptMismatch station) = codes "ReceiptMismatch"
 
--- of a run that was stopped or not settled the name is that of the fault for which it was
+-- the name of a fault of the run, without what it carries; that of a run that was stopped or not settled is the name of the fault
+-- for which it was
 abbrev pub run_name : RunFault → List ℕ
 run_name run.ScriptCount = codes "ScriptCount"
 run_name (run.NoThread station) = codes "NoThread"
@@ -38,6 +40,7 @@ run_name (run.Stopped station why) = stop_name why
 run_name (run.Settle why) = settle_name why
 run_name run.NoMemory = codes "NoMemory"
 
+-- the name of a fault of closing, without what it carries
 abbrev pub close_name : CloseFault → List ℕ
 close_name close.DateOutside = codes "DateOutside"
 close_name (close.TooManyBlocks table) = codes "TooManyBlocks"

@@ -9,7 +9,7 @@ use Rattle.program_frame.specs.declared.folder.FolderFault.{FolderFault}
 use Rattle.program_frame.specs.declared.folder.FolderFault.TheVariants as folder
 use Rattle.program_frame.specs.PlaceFaults.{IsOfRecovery}
 
--- the work came to its end, where these are its files and what it reports
+-- the work of a program came to its end, with these files and this report
 abbrev pub ComesToItsEnd : {R : Type 0} → (List NamedFile → R → Type 0) → Type 0
 ComesToItsEnd {R} writes = (files : List NamedFile) × (report : R) × writes files report
 
@@ -41,8 +41,8 @@ abbrev pub IsLoadFailure : {F : Type 0} → (F → Type 0) → F → Type 0 → 
 IsLoadFailure loads no_memory same (failure.Work fault) = (fault ≡ no_memory) ⊎ loads fault
 IsLoadFailure loads no_memory same why = same
 
--- why work failed, where the folder says why its last call failed that has: a file that was not written for want of memory is no
--- fault of the disk
+-- why work failed, if its folder lacked memory, by what the folder says of its last call that failed: a file that was not written
+-- out of memory is no fault of the disk
 abbrev pub given_up : {F : Type 0} → Bool → F → Option SetFault → F → F
 given_up true no_memory (Some set.NoMemory) fault = no_memory
 given_up is_unwritten no_memory why fault = fault

@@ -24,7 +24,7 @@ unrecovered_folder recovery.Failed = place.Folder folder.Unrecovered
 unrecovered_folder recovery.BadList = place.Folder folder.BadList
 unrecovered_folder (recovery.Unreplaced name) = place.Folder (folder.Unreplaced name)
 
--- it says that what an earlier run left was not brought to its end
+-- a fault says that what an earlier run left was not brought to its end
 abbrev pub IsOfRecovery : FolderFault → Type 0
 IsOfRecovery folder.InUse = ⊥
 IsOfRecovery folder.Unopened = ⊥
@@ -41,6 +41,6 @@ unplaced_files finish.NoMemory = place.NoMemory
 unplaced_files finish.Unwritten = place.Folder folder.Unwritten
 unplaced_files finish.Unfinished = place.Folder folder.Unfinished
 
--- so may a fault come of opening a folder: it is what one of its lock says
+-- such a fault may come of opening a folder, which locks it: it is what one of its lock says
 abbrev pub IsOfLock : PlaceFault → Type 0
 IsOfLock fault = (why : LockFault) × (fault ≡ unlocked_folder why)

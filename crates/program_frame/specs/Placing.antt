@@ -20,7 +20,7 @@ pub record HasFiles (files : List NamedFile) (old new : Folder) : Type 0 where
   pub others : (name : Name) → is_reserved name ≡ false → file_at files name ≡ None → new name ≡ old name
   pub clean : (name : Name) → is_reserved name ≡ true → new name ≡ None
 
--- recovery makes of it what it makes of one of these folders
+-- recovery makes of a folder what it makes of one of these
 abbrev pub RecoversAsOneOf : (Folder → Type 0) → Folder → Type 0
 RecoversAsOneOf outcomes left = (d : Folder) × outcomes d × RecoversTo (recovered d) left
 
@@ -31,20 +31,22 @@ pub record MayPut {D : Type 0} (m : DiskMeaning D) (are_such : List NamedFile �
   pub such : are_such files
   pub moments : LeavesOnly m start now (λ left. before left ⊎ RecoversTo (with_files files old) left)
 
--- and now they are in place
+-- so it was (`MayPut`), and now the new files are in their places
 pub record HasPut {D : Type 0} (m : DiskMeaning D) (are_such : List NamedFile → Type 0) (before : Folder → Type 0) (old : Folder) (start now : D) : Type 0 where
   pub put : MayPut m are_such before old start now
   pub placed : HasFiles put.files old (m.seen now)
 
--- or they were all on the disk at some moment since then, and none was in place yet; and what is seen now stands for one of the two
+-- So it was (`MayPut`); at some moment since then all new files were on the disk, and none was in its place yet; and what is seen
+-- now stands for one of the two: the files before, or the folder with the new ones.
 pub record WasPutting {D : Type 0} (m : DiskMeaning D) (are_such : List NamedFile → Type 0) (before : Folder → Type 0) (old : Folder) (start now : D) : Type 0 where
   pub put : MayPut m are_such before old start now
   pub ready : HasBeenReady m (names_of put.files) (m.moment start) old now
   pub shown : before (m.seen now) ⊎ RecoversTo (with_files put.files old) (m.seen now)
 
--- Work that began on a disk ended so, where a crash before left one of these folders, or this one with its files in their places.
--- At Ok they are in place. Where it failed, what a crash leaves, and what is seen, is one of the folders before, but where some of the
--- files may be in place: then all of them were on the disk. That they were not written is said only where a call of the disk has failed.
+-- How work that began on a disk ended, by its result, where a crash before left one of these folders, or this one with its files in
+-- their places. At Ok its files are in place. If it failed, what a crash leaves, and what is seen, is one of the folders before,
+-- unless some of the files may be in place: then all of them were on the disk. That they were not written is said only if a call of
+-- the disk has failed.
 pub record EndsInPlace {D R F : Type 0} (m : DiskMeaning D) (writes : List NamedFile → R → Type 0) (before : Folder → Type 0) (old : Folder)
     (start now : D) (ended : Result R (Failure F)) : Type 0 where
   pub placed : m.keeps_promises → IfOk ended (λ report. HasPut m (λ files. writes files report) before old start now)

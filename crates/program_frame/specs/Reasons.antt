@@ -15,7 +15,7 @@ use Rattle.dbf_image.specs.FaultWords.{image_name}
 use Rattle.ndx_index.specs.FaultWords.{ndx_name}
 use Rattle.program_frame.specs.FaultNames.{close_name, open_name, run_name}
 
--- that memory was refused
+-- the fault that memory was refused
 abbrev pub no_memory : ServeFault
 no_memory = serve.NoMemory
 
@@ -39,7 +39,7 @@ file_reason path (file.Ndx fault) = ndx_name fault
 abbrev pub unread_file : List ℕ → FileFault → List ℕ
 unread_file path fault = path ++ (codes ": " ++ file_reason path fault)
 
--- that the file of a name was not written
+-- the fault that the file of a name was not written
 abbrev pub unwritten : List ℕ → List ℕ
 unwritten name = codes "cannot write " ++ name
 
@@ -58,7 +58,7 @@ fault_reason (serve.Run fault) = codes "run: " ++ run_name fault
 fault_reason (serve.Close fault) = close_reason fault
 fault_reason serve.NoMemory = codes "run: NoMemory"
 
--- that a new file of this name can't take its place
+-- the fault that a new file of this name can't take its place
 abbrev pub unreplaced : List ℕ → List ℕ
 unreplaced name = codes "cannot recover the folder: " ++ (name ++ codes ": cannot be replaced")
 

@@ -6,11 +6,11 @@ use Rattle.station_lines.specs.declared.script.format.TheConstants.{LF}
 
 -- ---- the exit status
 
--- where an argument is no UTF-8 text
+-- the exit status if an argument is no UTF-8 text
 abbrev pub no_text_status : ℕ
 no_text_status = 1
 
--- where `clap` gave no options: the help or the version is asked for, memory was refused, or there is a mistake
+-- the exit status if `clap` gave no options: the help or the version is asked for, memory was refused, or there is a mistake
 abbrev pub mistake_status : ErrorKind → ℕ
 mistake_status kind.DisplayHelp = 0
 mistake_status kind.DisplayVersion = 0
@@ -19,11 +19,11 @@ mistake_status _ = 1
 
 -- ---- what is printed
 
--- on standard error where standard output took no text of this program
+-- the line on standard error if standard output took no text of this program
 abbrev pub unprinted_line : List ℕ → List ℕ
 unprinted_line program = program ++ (codes ": cannot print" ++ LF ∷ [])
 
--- on standard error where an argument is no UTF-8 text
+-- the line on standard error if an argument is no UTF-8 text
 abbrev pub no_text_line : List ℕ
 no_text_line = codes "error: an argument is no UTF-8 text" ++ LF ∷ []
 
@@ -34,7 +34,7 @@ mistake_line no_memory_line _ = None
 
 -- ---- a call that came to its end
 
--- what stands before that standard output took no text, where this is said besides
+-- what stands before the words that standard output took no text, if they are said besides
 abbrev pub said_before : {R E : Type 0} → (R → List ℕ) → Result R E → List ℕ
 said_before aside (Ok report) = aside report
 said_before aside (Err ending) = []

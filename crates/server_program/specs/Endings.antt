@@ -5,7 +5,7 @@ use Rattle.station_lines.specs.declared.script.format.TheConstants.{LF}
 use Rattle.office_run.specs.Closing.{answer_name}
 use Rattle.office_run.specs.declared.counts.CommandCounts.{CommandCounts}
 
--- on standard output where all files are written, its LF too
+-- the line on standard output if all files are written, its LF too
 abbrev pub count_line : ℕ → List ℕ
 count_line count = codes "station_server: " ++ (decimal count ++ (codes " commands" ++ LF ∷ []))
 
@@ -18,7 +18,8 @@ abbrev pub refused_parts : ℕ → List ℕ → List ℕ
 refused_parts station [] = []
 refused_parts station (count ∷ rest) = refused_part station count ++ refused_parts (station + 1) rest
 
--- on standard error where any command was refused, its LF too: how many, and of which stations; and else nothing
+-- The line on refused commands, on standard error, its LF too: how many, and of each station that has some its answer file and how
+-- many. Nothing if there is none.
 abbrev pub refused_text : CommandCounts → List ℕ
 refused_text counts =
     if counts.refused == 0 then []

@@ -43,7 +43,7 @@ IsInput setup entries path = (path ≡ setup) ⊎ IsNamedIn entries path
 abbrev pub IsClosedBeside : FileAnswers → List ℕ → Type 0
 IsClosedBeside answers path = (log : Option (List ℕ)) × answers (log_beside path) (Ok log) × (is_open_file log ≡ false)
 
--- or a day is open there
+-- the system has answered of the log in the folder of this path: a day is open there
 abbrev pub IsOpenBeside : FileAnswers → List ℕ → Type 0
 IsOpenBeside answers path = (log : Option (List ℕ)) × answers (log_beside path) (Ok log) × (is_open_file log ≡ true)
 

@@ -16,7 +16,7 @@ abbrev pub HasAnswersOf : {files : Option (List NamedFile)} {setup : List ℕ} {
     {written : List NamedFile} {counts : CommandCounts} → Folder → IsServed files setup reindex today journal written counts → Type 0
 HasAnswersOf folder served = AllHaveAnswers (HasFile folder) served.run.history served.run.read.scripts
 
--- and the entries that were answered so, in the journal's file
+-- the folder has, in the journal's file of this run, the entries that were answered so
 abbrev pub HasJournalOf : {files : Option (List NamedFile)} {setup : List ℕ} {reindex : Bool} {today : Day} {journal : Bool}
     {written : List NamedFile} {counts : CommandCounts} → Folder → IsServed files setup reindex today journal written counts → Type 0
 HasJournalOf folder served = HasEntries (HasFile folder) served.run.history.journal

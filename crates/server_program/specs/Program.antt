@@ -25,16 +25,16 @@ use Rattle.office_run.specs.WholeRun.{IsServeFault}
 
 -- ---- the command line
 
--- the program with the options that have to be given
+-- the program with those of its options that have to be given
 abbrev pub paths_app : App
 paths_app =
     with_rule (with_rule (with_rule (program_app (codes "station_server")) (required_rule (codes "setup"))) (required_rule (codes "out"))) (required_rule (codes "today"))
 
--- the program and all its options
+-- the program and all its options, as they are declared to `clap`
 abbrev pub server_app : App
 server_app = with_rule (with_rule paths_app (flag_rule (codes "reindex"))) (flag_rule (codes "journal"))
 
--- the paths of the setup and of the folder are given, and a date
+-- a command line names its files, the setup and the folder, and a date
 pub record HasPaths (rows : List Row) : Type 0 where
   pub setup : IsSome (first_of (codes "setup") rows)
   pub out : IsSome (first_of (codes "out") rows)
@@ -67,7 +67,8 @@ abbrev pub says_unwritten : ServeFault → Bool
 says_unwritten (Close (Write name)) = true
 says_unwritten why = false
 
--- the run that the options ask for came to its end over these files, these are its files, and this is said of it
+-- the run that the options ask for came to its end over these files: a whole run at the values of the options, these are its files,
+-- and this is said of it
 abbrev pub IsServedBy : Option (List NamedFile) → Options → List NamedFile → Served → Type 0
 IsServedBy files options written served = IsServed files options.setup.now options.reindex options.today options.journal written served.counts
 
@@ -97,7 +98,7 @@ abbrev pub IsServedFault : FileAnswers → Option (List NamedFile) → Options �
 IsServedFault answers files options fault =
     IsServeFault files options.setup.now options.reindex options.today.year fault ⊎ IsInputLogFault answers files options.setup.now fault
 
--- why its files are not in place in the folder of a disk: also since a day is open there, or in a folder from which it reads
+-- why the new files are not in place in the folder of a disk: also since a day is open there, or in a folder from which it reads
 abbrev pub IsPlaceFailure : FileAnswers → Option (List NamedFile) → Options → Failure ServeFault → Type 0
 IsPlaceFailure answers files options (failure.Folder folder.DayOpen) = Unit {0}
 IsPlaceFailure answers files options why = IsPlaceFailureOf (IsServedFault answers files options) NoMemory (ComesToItsEnd (IsServedBy files options)) why
@@ -106,11 +107,11 @@ IsPlaceFailure answers files options why = IsPlaceFailureOf (IsServedFault answe
 abbrev pub IsBegunLoadFailure : Option (List NamedFile) → Option ℕ → Option ℕ → Failure ServeFault → Type 0
 IsBegunLoadFailure files before after why = IsLoadFailureOf (IsFailure files before after) NoMemory (after ≡ before) why
 
--- what a failure says of it
+-- what a failure says of the count of loads that failed
 abbrev pub IsLoadFailure : FileAnswers → Option (List NamedFile) → List ℕ → Option ℕ → Option ℕ → Failure ServeFault → Type 0
 IsLoadFailure answers files setup before after why = IsLoadFailureOf (IsInputFailure answers files setup before after) NoMemory (after ≡ before) why
 
--- why the run that the options ask for has not written its files
+-- why the run that the options ask for has not written its files, also since the folder can't be had
 abbrev pub IsUnserved : FileAnswers → Option (List NamedFile) → Options → Failure ServeFault → Type 0
 IsUnserved answers files options (failure.Folder folder.DayOpen) = Unit {0}
 IsUnserved answers files options why = IsRunFailure (IsServedFault answers files options) NoMemory (ComesToItsEnd (IsServedBy files options)) why

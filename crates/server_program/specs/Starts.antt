@@ -46,7 +46,7 @@ EndsAfterStarts m options [] first last = AreAlike last (recovered (m.seen first
 EndsAfterStarts m options (start ∷ others) first last =
     IsStartedAgain m options start.input first start.next × EndsAfterStarts m options others start.next last
 
--- each folder that a crash may leave now stands for these files
+-- whatever a crash may leave now, recovery makes these files of it
 abbrev pub StandsFor : {D : Type 0} → DiskMeaning D → Folder → D → Type 0
 StandsFor m old disk = (c : Folder) → m.may_leave disk c → RecoversTo old c
 

@@ -49,12 +49,12 @@ pub record IsNamed (files : Option (List NamedFile)) (entries : List SetupEntry)
   pub there : slice_get entries place ≡ Some entry
   pub table_of : IsTableOf files entry table
 
--- there is no such entry, or what was found at it is a refusal
+-- there is no such entry of a table, or what was found at it is a refusal
 abbrev pub IsRefusedAt : List Finding → Option ℕ → Type 0
 IsRefusedAt findings None = Unit {0}
 IsRefusedAt findings (Some place) = (fault : EntryFault) × (slice_get findings place ≡ Some (found.Refused fault))
 
--- what an index's file is beside the table of a name, by the entries before its own and what was found at them
+-- what an index's file is beside the first table of its name among the entries before its own, by what was found at them
 abbrev pub IsBeside : Option (List NamedFile) → List SetupEntry → List Finding → List ℕ → NdxFile → IndexState → Type 0
 IsBeside files before findings name file HasNoTable = IsRefusedAt findings (first_table name before)
 IsBeside files before findings name file state = (table : Content) × IsNamed files before name table × IsIndexState table file state
@@ -63,7 +63,8 @@ abbrev pub IsIndexFinding : Option (List NamedFile) → List SetupEntry → List
 IsIndexFinding files before findings table ndx found =
     (file : NdxFile) × IsIndexOfFile files ndx file × (found.keys ≡ length file.pairs.pairs) × IsBeside files before findings table file found.state
 
--- what is found at an entry after others: what its files are, or why they are refused
+-- what is found at an entry of a setup, by the entries before it and what was found at them: what its files are, or why they are
+-- refused
 abbrev pub IsFinding : Option (List NamedFile) → List SetupEntry → List Finding → SetupEntry → Finding → Type 0
 IsFinding files before findings entry (found.Refused fault) = IsRefusalOf files entry fault
 IsFinding files before findings (Table name dbf dbt) (found.Table counts) = (table : Content) × IsTableOfFiles files dbf dbt table × IsCounts table counts

@@ -23,7 +23,7 @@ HasLength table file e = file.key_len ≡ key_length table.schema e
 abbrev pub HasPairs : Table → NdxFile → Expr → Type 0
 HasPairs table file e = IsPermutation (pairs_of table e) file.pairs.pairs
 
--- what a file of this key expression is beside a table
+-- what the file of an index of this key expression is beside its table
 abbrev pub IsIndexStateWith : Table → NdxFile → Expr → IndexState → Type 0
 IsIndexStateWith table file e NoTable = ⊥
 IsIndexStateWith table file e (NoExpression fault) = ⊥
@@ -31,7 +31,7 @@ IsIndexStateWith table file e (OtherLength own wanted) = (own ≡ file.key_len) 
 IsIndexStateWith table file e (Stale first) = HasLength table file e × (HasPairs table file e → ⊥) × (first ≡ first_wrong table e file.pairs.pairs)
 IsIndexStateWith table file e Fresh = HasLength table file e × HasPairs table file e
 
--- what a file is beside a table
+-- what the file of an index is beside its table: fresh, of another length of keys, stale, or of no key expression for its fields
 abbrev pub IsIndexState : Table → NdxFile → IndexState → Type 0
 IsIndexState table file NoTable = ⊥
 IsIndexState table file (NoExpression fault) = (fault ≢ NoMemory) × IsFault fault table.schema file.expr

@@ -22,11 +22,11 @@ abbrev pub kept_words : Option Kept → List ℕ
 kept_words None = []
 kept_words (Some file) = kept_line file
 
--- those of an entry: of its DBF or NDX file, and of its DBT file
+-- a line for each file of an entry that stays as it is: of its DBF or NDX file, and of its DBT file
 abbrev pub entry_kept_lines : SetupEntry → List ℕ
 entry_kept_lines entry = kept_words (kept_file_in entry) ++ kept_words (kept_memo_file_in entry)
 
--- those of all entries, in their order
+-- a line for each file of a setup that stays as it is if new files go into its folder: those of all entries, in their order
 abbrev pub kept_lines : List SetupEntry → List ℕ
 kept_lines [] = []
 kept_lines (entry ∷ entries) = entry_kept_lines entry ++ kept_lines entries

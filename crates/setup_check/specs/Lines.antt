@@ -81,7 +81,7 @@ index_detail_words index.BadKeyLength page numbers = codes ": " ++ decimal numbe
 index_detail_words index.BadRecordSize page numbers = codes ": " ++ (decimal numbers.record_size ++ (codes " bytes for keys of " ++ decimal numbers.key_length))
 index_detail_words why page numbers = bad_page_words page
 
--- that the folder of a path is not recovered, and how that is done
+-- the words that the folder of a path is not recovered, and how that is done
 abbrev pub unrecovered_words : List ℕ → List ℕ
 unrecovered_words path = codes "the folder is not recovered: start with --out " ++ folder_of_path path
 
@@ -171,12 +171,13 @@ abbrev pub memos_line : SetupEntry → Finding → List ℕ
 memos_line (Table name dbf (Some dbt)) (found.Table counts) = words_line name dbt (codes "good")
 memos_line entry finding = []
 
+-- what is found at an entry, in words, a line a file
 abbrev pub entry_lines : SetupEntry → Finding → List ℕ
 entry_lines entry finding =
     let path = entry_path entry finding in
     words_line (entry_name entry) path (finding_words path finding) ++ memos_line entry finding
 
--- the lines of the entries, in their order
+-- what is found at the entries of a setup, in words, a line a file, in their order
 abbrev pub setup_lines : List SetupEntry → List Finding → List ℕ
 setup_lines [] findings = []
 setup_lines (entry ∷ entries) [] = []

@@ -61,7 +61,7 @@ abbrev pub day_line : List ℕ → LogFinding → List ℕ
 day_line path (Open count) = path ++ (log_words count ++ LF ∷ [])
 day_line path finding = []
 
--- those of the logs of some paths
+-- the lines for days that are open, of the logs of some paths
 abbrev pub day_lines : List (List ℕ) → List LogFinding → List ℕ
 day_lines [] findings = []
 day_lines (path ∷ paths) [] = []

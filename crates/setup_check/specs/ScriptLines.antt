@@ -58,7 +58,7 @@ pub record AreCounts (lines : List (List ℕ)) (counts : ScriptCounts) : Type 0 
 
 -- ---- why lines are bad, in words
 
--- why a line of a script is
+-- why a line of a script is bad, in words
 abbrev pub reason_words : Reason → List ℕ
 reason_words script.byte_order_mark = codes "it begins with a byte order mark"
 reason_words script.end_mark = codes "it ends with 1A, the mark of a file's end"
@@ -70,7 +70,7 @@ reason_words script.open_text = codes "a text has no end"
 reason_words (script.word_too_many word) = codes "a word too many: " ++ shown_line word
 reason_words script.other_form = codes "not the form of its command"
 
--- why a line of a setup is
+-- why a line of a setup is bad, in words
 abbrev pub setup_reason_words : SetupReason → List ℕ
 setup_reason_words setup.byte_order_mark = codes "it begins with a byte order mark"
 setup_reason_words setup.not_ascii = codes "it has a byte over 127"
@@ -87,7 +87,7 @@ setup_reason_words (setup.no_table word) = codes "no TABLE of the name " ++ (sho
 abbrev pub numbered_line : ℕ → List ℕ → List ℕ
 numbered_line number line = codes "line " ++ (decimal number ++ (codes ": " ++ shown_line line))
 
--- that all lines are good, or how many are bad, and the first of these
+-- the words that all lines are good, or how many are bad, and the first of these
 abbrev pub verdict_words : ℕ → Option (ℕ × List ℕ) → List ℕ
 verdict_words bad None = codes ": good"
 verdict_words bad (Some first) = codes ", " ++ (decimal bad ++ (codes " are no command: the first is " ++ numbered_line first.0 first.1))
@@ -114,6 +114,8 @@ abbrev pub details_text : BadLinesTold → List ℕ → List (List ℕ) → List
 details_text First path lines = []
 details_text Each path lines = bad_lines_text path 1 lines
 
+-- What is said of a script: how many lines it has, blank ones and remarks too, how many of them are no command and the first of
+-- these; if it is asked for, each of them and why.
 abbrev pub script_text : BadLinesTold → List ℕ → List (List ℕ) → List ℕ
 script_text told path lines = script_line path lines ++ details_text told path lines
 
@@ -128,7 +130,7 @@ IsEntryText files told (Station script) text =
     ⊎ ((why : LoadRefusal) × IsLoadRefusal files script why × (text ≡ []))
 IsEntryText files told entry text = text ≡ []
 
--- what is told of the scripts of entries, one after another
+-- what is said of the scripts of entries, one after another, and nothing of one that can't be read
 abbrev pub AreScriptTexts : Option (List NamedFile) → BadLinesTold → List SetupEntry → List ℕ → Type 0
 AreScriptTexts files told [] text = text ≡ []
 AreScriptTexts files told (entry ∷ entries) text =
@@ -136,7 +138,7 @@ AreScriptTexts files told (entry ∷ entries) text =
 
 -- ---- what is told of a bad line of a setup
 
--- the line of this number, and why it is bad
+-- the text on a setup's bad line: its number, and why it is bad
 abbrev pub IsBadSetupText : List ℕ → ℕ → List ℕ → Type 0
 IsBadSetupText setup number text =
     (lines : List (List ℕ)) × AreLines lines setup

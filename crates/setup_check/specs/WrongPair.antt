@@ -28,6 +28,7 @@ abbrev pub first_wrong_from : Table → Expr → ℕ → List Pair → Option Wr
 first_wrong_from table e n [] = None
 first_wrong_from table e n (p ∷ pairs) = if is_record_pair table e p then first_wrong_from table e (n + 1) pairs else Some (wrong_pair table e n p)
 
--- the first of a file's
+-- the first pair of an index's file that isn't its record's: its number in the file, its record number, its key and that record's
+-- key, if there is one
 abbrev pub first_wrong : Table → Expr → List Pair → Option WrongPair
 first_wrong table e pairs = first_wrong_from table e 1 pairs

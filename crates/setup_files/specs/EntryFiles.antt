@@ -46,7 +46,7 @@ pub record IsIndexOfFile (files : Option (List NamedFile)) (ndx : List ℕ) (fil
   pub found : IsFileOf files ndx bytes
   pub is : IsIndex bytes file.expr file.key_len file.pairs.pairs
 
--- the files of the entry are this
+-- the files of the entry are this: a table, an index, or the bytes of a script
 abbrev pub IsContentOf : Option (List NamedFile) → SetupEntry → EntryContent → Type 0
 IsContentOf files (Table name dbf dbt) (content.Table records) = IsTableOfFiles files dbf dbt records.table
 IsContentOf files (Index table name ndx) (content.Index file) = IsIndexOfFile files ndx file
@@ -84,7 +84,8 @@ abbrev pub IsMemosRefusal : Option (List NamedFile) → Option (List ℕ) → Lo
 IsMemosRefusal files None why = ⊥
 IsMemosRefusal files (Some path) why = IsLoadRefusal files path why
 
--- why the files of the entry are refused. A table's memos are loaded only where its own file was found.
+-- Why the files of an entry are refused: no bytes are had of one, or its reader refuses them, with the part or page. A table's
+-- memos are loaded only if its own file was found.
 abbrev pub IsRefusalOf : Option (List NamedFile) → SetupEntry → EntryFault → Type 0
 IsRefusalOf files (Table name dbf dbt) (Unloaded why) = IsLoadRefusal files dbf why
 IsRefusalOf files (Table name dbf dbt) (UnloadedMemos why) = (bytes : List ℕ) × IsFileOf files dbf bytes × IsMemosRefusal files dbt why

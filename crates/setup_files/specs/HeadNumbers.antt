@@ -4,7 +4,7 @@ use Rattle.ndx_index.specs.declared.format.TheConstants.{PAGE}
 use Rattle.ndx_index.specs.Header.{header_numbers}
 use Rattle.setup_files.specs.declared.head_numbers.IndexNumbers.{IndexNumbers}
 
--- how long the file is, and the numbers of its header page, where it is all there
+-- how long the file is, and the numbers of its header page; these are 0 if the page isn't all there
 abbrev pub index_numbers : List ℕ → IndexNumbers
 index_numbers bytes =
     if nat_lt (length bytes) PAGE

@@ -33,7 +33,7 @@ IsFailureAt files before after entry (Unloaded why) = IsRefusedLoad files (refus
 IsFailureAt files before after entry (UnloadedMemos why) = IsRefusedLoad files (refused_path entry (UnloadedMemos why)) before after why
 IsFailureAt files before after entry fault = after ≡ before
 
--- by whether the files of an entry were read
+-- at an entry one more load failed exactly if it is found that a file can't be read, or the file is over the limit
 abbrev pub IsEntryLoad : Option (List NamedFile) → Option ℕ → Option ℕ → SetupEntry → Result EntryContent EntryFault → Type 0
 IsEntryLoad files before after entry (Ok found) = after ≡ before
 IsEntryLoad files before after entry (Err fault) = IsFailureAt files before after entry fault

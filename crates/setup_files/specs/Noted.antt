@@ -12,7 +12,7 @@ abbrev pub memo_paths : Option (List ℕ) → List (List ℕ)
 memo_paths None = []
 memo_paths (Some path) = path ∷ []
 
--- the paths of the files that an entry names, in the order in which these are read: a table's DBF, and then its DBT
+-- the paths of the files that an entry names, in the order of reading: a table's DBF, and then its DBT
 abbrev pub paths_of : SetupEntry → List (List ℕ)
 paths_of (Table name dbf dbt) = dbf ∷ memo_paths dbt
 paths_of (Index table name ndx) = ndx ∷ []

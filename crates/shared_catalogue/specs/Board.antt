@@ -34,7 +34,7 @@ with_next known row e = known_of (known.rows ++ row ∷ []) (known.entries ++ e 
 abbrev pub IsPartOf : Known → Known → Type 0
 IsPartOf known all = IsPrefix known.rows all.rows × IsPrefix known.entries all.entries
 
--- the one with more rows
+-- of two that are known, the one with more rows
 abbrev pub more_known : Known → Known → Known
 more_known k l = if nat_lt (length k.rows) (length l.rows) then l else k
 
@@ -90,7 +90,7 @@ pub record IsLoadOf (v : View) (before after : List ℕ) (w : View) : Type 0 whe
 abbrev pub IsWriterLoadOf : View → List ℕ → List ℕ → View → Type 0
 IsWriterLoadOf v before after w = IsPartOf v.noted v.known × (w ≡ writer_of v.known)
 
--- making the board: the writer's first view knows the opening row, and no entry
+-- The kinds of step on the board. Making it: the writer's first view knows the opening row, and no entry.
 abbrev pub first_view : View
 first_view = writer_of (known_of (opening_row ∷ []) [])
 
@@ -117,5 +117,6 @@ told_view v w = record { writes = v.writes; known = more_known v.known w.known; 
 abbrev pub noting_view : View → View → View
 noting_view v w = record { writes = v.writes; known = v.known; noted = w.known; receipts = v.receipts; loads = v.loads }
 
+-- the view of the pass that a join has spent
 abbrev pub spent_view : View
 spent_view = reader_of nothing_known

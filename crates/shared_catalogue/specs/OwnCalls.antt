@@ -23,7 +23,7 @@ IsSublist [] ys = Unit {0}
 IsSublist (x ∷ xs) [] = ⊥
 IsSublist (x ∷ xs) (y ∷ ys) = ((x ≡ y) × IsSublist xs ys) ⊎ IsSublist (x ∷ xs) ys
 
--- the lists are the commands and answers of the stations 1 to n in the journal, each in order
+-- the lists, one a station, are the commands and answers of the stations 1 to n in the journal, each in order
 abbrev pub AreOwn : List Entry → List (List Receipt) → ℕ → Type 0
 AreOwn journal lists n = (i : ℕ) → i < n → slice_get lists i ≡ Some (of_station journal (i + 1))
 

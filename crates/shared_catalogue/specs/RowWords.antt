@@ -30,7 +30,7 @@ row_of_words words = record {
 abbrev pub IsSmallStatus : TableStatus → Type 0
 IsSmallStatus t = (t.holder < u32_count) × (t.record_locks < u32_count)
 
--- the row has ten tables, and its numbers, but for the journal's length, have 32 bits
+-- A row is read back from its words: it has ten tables, and its numbers, but for the journal's length, have 32 bits.
 pub record IsSmallRow (r : StatusRow) : Type 0 where
   pub station : r.last_station < u32_count
   pub answer : r.last_answer < u32_count

@@ -17,7 +17,7 @@ free_status = record { holder = 0; record_locks = 0 }
 abbrev pub opening_row : StatusRow
 opening_row = record { journal_length = 0; last_station = 0; last_answer = 0; tables = replicate MAX_TABLES free_status }
 
--- the row after the first n entries
+-- the row after the first n entries of a journal
 abbrev pub row_after : History → ℕ → StatusRow
 row_after h n = row (history h.opened (take n h.journal))
 
@@ -54,8 +54,8 @@ IsToldOfCall old station answer new =
     (between : List StatusRow) × (last : StatusRow)
     × (new ≡ (old ++ between) ++ last ∷ []) × (last.last_station ≡ station) × (last.last_answer ≡ answer_code answer)
 
--- in a history of these opened tables, with at least this many entries, the command is answered so; and these are the rows
--- of that history once it has been performed
+-- These are the rows of a history once the command has been performed: a history of these opened tables, with at least this many
+-- entries, in which the command is answered so.
 abbrev pub AreRowsOfCall : Opened → ℕ → ℕ → Command → Answer → List StatusRow → Type 0
 AreRowsOfCall opened least station command answer rows =
     (h : History) × IsHistoryOf opened least h × (answer ≡ answer_of h station command) × (rows ≡ status_rows (with_entry h station command))

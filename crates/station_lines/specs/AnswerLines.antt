@@ -12,7 +12,7 @@ use Rattle.table_core.specs.Refusals.{code_of, name_of}
 abbrev pub refusal_text : Refusal → List ℕ
 refusal_text refusal = codes "REFUSED " ++ (decimal (code_of refusal) ++ (codes " " ++ name_of refusal))
 
--- the line of an answer, without the LF that ends it
+-- an answer as a line of an answer file, without the LF that ends it
 abbrev pub line_of : Answer → List ℕ
 line_of Done = codes "OK"
 line_of (Number n) = decimal n

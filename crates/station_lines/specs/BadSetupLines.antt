@@ -10,7 +10,8 @@ use Rattle.station_lines.specs.Script.Reading.{without_gaps, is_empty}
 use Rattle.station_lines.specs.Script.BadLines.{begins_with_mark}
 use Rattle.station_lines.specs.Setup.{short_name}
 
--- why a line of a setup is bad
+-- Why a line of a setup is bad: a byte order mark, a byte over 127, a keyword in small letters, another first word, a word too few,
+-- a word too many, a word that is no name, no earlier table of the name.
 pub data SetupReason : Type 0 where
   byte_order_mark : SetupReason
   not_ascii : SetupReason
@@ -90,6 +91,7 @@ key_reason key rest =
     else (if bytes_eq key (codes "STATION") then station_reason rest
     else (if is_setup_word key then small_letters key else unknown_word key)))
 
+-- why a bad line of a setup is bad: the first of these that is so of it
 abbrev pub setup_reason : List ℕ → SetupReason
 setup_reason line =
     if begins_with_mark line then byte_order_mark

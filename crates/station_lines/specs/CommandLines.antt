@@ -58,7 +58,8 @@ abbrev pub with_commas : List ℕ → List ℕ
 with_commas [] = []
 with_commas (n ∷ ns) = decimal n ++ after_commas ns
 
--- The line of a command, without an ending. That of `Bad` can't be read either.
+-- The line of a command, without an ending: whole words in capitals, apart by one blank; a text between `"`, or between `'` if it
+-- has a `"`; a number with all its decimals; a date as `CTOD("MM/DD/YY")`; `BAD` for `Bad`, which can't be read either.
 abbrev pub text_of_command : Command → List ℕ
 text_of_command (Select n) = codes "SELECT " ++ decimal n
 text_of_command (UseTable name false) = codes "USE " ++ name

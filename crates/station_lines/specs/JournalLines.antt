@@ -9,9 +9,9 @@ use Rattle.station_lines.specs.declared.script.format.TheConstants.{LF}
 use Rattle.station_lines.specs.AnswerLines.{line_of}
 use Rattle.station_lines.specs.CommandLines.{text_of_command}
 
--- An entry's line, and what stands after it: the station's number, how many bytes the command's line and the answer's
--- line have, these two lines, and LF. Since the bytes are counted, any byte may stand in the answer's line, an LF of a
--- memo too. The line of a command that a script's line means has no LF (IsOfALine).
+-- The line of a journal's entry, and what stands after it: the station's number, how many bytes the command's line and the answer's
+-- line have, these two lines, apart by one blank, and LF. Since the bytes are counted, any byte may stand in the answer's line, an
+-- LF of a memo too. The line of a command that a script's line means has no LF (IsOfALine).
 abbrev pub entry_and : ℕ × List ℕ × List ℕ → List ℕ → List ℕ
 entry_and entry rest =
     decimal entry.0 ++ (BLANK ∷ (decimal (length entry.1) ++ (BLANK ∷ (decimal (length entry.2) ++ (BLANK ∷
@@ -34,7 +34,7 @@ journal_text entries = lines_and (map line_parts entries) []
 abbrev pub HasSmallNumbers : ℕ × List ℕ × List ℕ → Type 0
 HasSmallNumbers entry = (entry.0 < 2 ^ 64) × (length entry.1 < 2 ^ 64) × (length entry.2 < 2 ^ 64)
 
--- those of each entry are
+-- the numbers of each entry's line are small so
 abbrev pub HaveSmallNumbers : List (ℕ × List ℕ × List ℕ) → Type 0
 HaveSmallNumbers [] = Unit {0}
 HaveSmallNumbers (entry ∷ entries) = HasSmallNumbers entry × HaveSmallNumbers entries
@@ -73,7 +73,7 @@ pub record BeginsWithPart (text : List ℕ) (count end : ℕ) (part rest : List 
 abbrev pub BeginsWithNoPart : List ℕ → ℕ → ℕ → Type 0
 BeginsWithNoPart text count end = (part rest : List ℕ) → length part ≡ count → text ≢ part ++ (end ∷ rest)
 
--- an entry's line is first
+-- an entry's line is first in the text
 pub record BeginsWithEntry (text : List ℕ) (entry : ℕ × List ℕ × List ℕ) (rest : List ℕ) : Type 0 where
   pub is : text ≡ entry_and entry rest
   pub small : HasSmallNumbers entry

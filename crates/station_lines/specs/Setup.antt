@@ -45,11 +45,11 @@ SaysEntry words (Index table name ndx) =
     (first : List ℕ) × (second : List ℕ) × (words ≡ codes "INDEX" ∷ first ∷ second ∷ ndx ∷ []) × (short_name first ≡ Some table) × (short_name second ≡ Some name)
 SaysEntry words (Station script) = words ≡ codes "STATION" ∷ script ∷ []
 
--- the line says nothing
+-- the line of a setup says nothing
 abbrev pub IsSkipped : List ℕ → Type 0
 IsSkipped line = (words : List (List ℕ)) × AreWords words line × (skips words ≡ true)
 
--- the line says this, and has no byte over 127
+-- the line of a setup says this entry, and has no byte over 127
 abbrev pub IsEntry : List ℕ → SetupEntry → Type 0
 IsEntry line entry = (words : List (List ℕ)) × AreWords words line × (list_all is_ascii line ≡ true) × SaysEntry words entry
 
@@ -67,7 +67,7 @@ abbrev pub IndexesFollowTables : List SetupEntry → Type 0
 IndexesFollowTables entries =
     (i : ℕ) (table name ndx : List ℕ) → slice_get entries i ≡ Some (Index table name ndx) → list_any (is_table_of table) (take i entries) ≡ true
 
--- the line says this, which may stand after these entries
+-- the line of a setup says this entry, which may stand after these
 abbrev pub IsNext : List SetupEntry → List ℕ → SetupEntry → Type 0
 IsNext before line entry = IsEntry line entry × (may_follow before entry ≡ true)
 
@@ -98,7 +98,7 @@ pub record HasBadLine (text : List ℕ) (number : ℕ) : Type 0 where
   pub is_bad : IsBadAfter entries bad
   pub counted : number ≡ length good + 1
 
--- a line says what may stand after the lines before it, none of which is bad
+-- the text has a line that says what may stand after the lines before it, none of which is bad
 pub record HasNextEntry (text : List ℕ) : Type 0 where
   pub good : List (List ℕ)
   pub line : List ℕ

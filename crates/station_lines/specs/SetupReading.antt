@@ -66,7 +66,7 @@ index_in words = None
 abbrev pub station_entry : List (List ℕ) → Option SetupEntry
 station_entry words = option_map entry.Station (only_word words)
 
--- what words say
+-- what the reader makes of a setup's line, by its words
 abbrev pub entry_in : List (List ℕ) → Option SetupEntry
 entry_in [] = None
 entry_in (key ∷ words) =

@@ -2,6 +2,7 @@
 use Rattle.std.specs.Prelude.{ℕ, List}
 use Rattle.dbf_fields.specs.declared.literal.Literal.{Literal}
 
+-- an edit as a value
 pub data EditValue : Type 0 where
   AppendBlank : EditValue
   Replace : List ℕ → Literal → EditValue

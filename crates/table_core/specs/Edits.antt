@@ -81,7 +81,7 @@ abbrev pub with_made_index : Content → Cursor → Indexed → Content × Curso
 with_made_index content cursor index =
     (with_index content index, at_top (with_index content index) (in_order_of cursor (length content.indexes + 1)))
 
--- an edit that is asked for, as a value: what it borrows is its own
+-- the value for which an `Edit`, which borrows, stands: what it borrows is the value's own
 abbrev pub edit_value : Edit → EditValue
 edit_value asked.AppendBlank = AppendBlank
 edit_value (asked.Replace field value) = Replace field.now value.now
@@ -90,7 +90,7 @@ edit_value asked.Delete = Delete
 edit_value asked.Recall = Recall
 edit_value asked.Pack = Pack
 
--- the table and the cursor after an edit, or the first refusal
+-- what an edit makes of the table and the cursor, or its first refusal
 abbrev pub edited : Content → Cursor → EditValue → Result (Content × Cursor) Refusal
 edited content cursor AppendBlank = append_blank content cursor
 edited content cursor (Replace name value) = replace content cursor name value

@@ -38,6 +38,7 @@ at_record cursor number = record { at = Some number; bof = false; found = false;
 abbrev pub at_top : Content → Cursor → Cursor
 at_top content cursor = at_place cursor (numbers content cursor.order) 0 (has_no_records content)
 
+-- GO TOP. Moves are arithmetic on places in an order.
 abbrev pub top : Content → Cursor → Result Cursor Refusal
 top content cursor = Ok (at_top content cursor)
 
@@ -91,5 +92,6 @@ seek content cursor text =
 abbrev pub in_order_of : Cursor → ℕ → Cursor
 in_order_of cursor order = record { at = cursor.at; bof = cursor.bof; found = cursor.found; order = order }
 
+-- SET ORDER TO
 abbrev pub set_order : Content → Cursor → ℕ → Result Cursor Refusal
 set_order content cursor order = granted (nat_le order (length content.indexes)) NoSuchOrder (Ok (in_order_of cursor order))

@@ -16,10 +16,11 @@ pub record HandedIndex : Type 0 where
   pub expr : Expression
   pub pairs : List Pair
 
+-- the indexes of a table as they are handed over
 abbrev pub handed : IndexParts → HandedIndex
 handed parts = record { name = parts.name; expr = parts.expr; pairs = parts.pairs.pairs }
 
--- an index of a table: its pairs are the table's in order
+-- an index of a table as it is handed over: its pairs are the table's in order
 abbrev pub handed_of : Table → Indexed → HandedIndex
 handed_of table index = record { name = index.name; expr = index.expr; pairs = order table index.expr.expr }
 

@@ -38,6 +38,7 @@ moved_by content cursor (AddIndex added) = (with_made_index content cursor (inde
 abbrev pub changed : Content → Planned → Content
 changed content planned = changed_by content planned.change
 
+-- the cursor after the plan is carried out
 abbrev pub cursor_after : Content → Cursor → Planned → Cursor
 cursor_after content cursor planned = moved_by content cursor planned.change
 
@@ -106,7 +107,7 @@ CanMake held (SetMark number deleted) = IsRecordOf held.content.table number
 CanMake held (Pack indexes) = CanPack held indexes.items
 CanMake held (AddIndex added) = CanAddIndex held added.value.index added.value.list.items (vec_capacity added.value.list)
 
--- planned for the table as it stands
+-- when a plan can be carried out: it was planned for the table as it stands
 abbrev pub IsPlanned : Held → Planned → Type 0
 IsPlanned held planned = CanMake held planned.change
 

@@ -28,8 +28,10 @@ code_and_name BadExpression = (21, codes "BadExpression")
 code_and_name IndexNameUsed = (22, codes "IndexNameUsed")
 code_and_name TooManyIndexes = (23, codes "TooManyIndexes")
 
+-- the number of a refusal
 abbrev pub code_of : Refusal → ℕ
 code_of refusal = (code_and_name refusal).0
 
+-- the name of a refusal
 abbrev pub name_of : Refusal → List ℕ
 name_of refusal = (code_and_name refusal).1

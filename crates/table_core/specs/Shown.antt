@@ -19,7 +19,7 @@ truth_shown cell = if truth cell then codes ".T." else codes ".F."
 abbrev pub shown : Field → List ℕ → List ℕ
 shown field cell = if field.kind == LOGICAL then truth_shown cell else (if field.kind == DATE then date_shown cell else cell)
 
--- the value of a field in the record at the cursor, or the first refusal
+-- what `?` shows of a field in the record at the cursor, or the first refusal
 abbrev pub show : Content → Cursor → List ℕ → Result (List ℕ) Refusal
 show content cursor name =
     passed (target content cursor name) (λ t. Ok (shown (field_at content t.field) (cell_at content.table t.number t.field)))

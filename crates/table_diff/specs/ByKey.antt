@@ -12,7 +12,7 @@ use Rattle.table_diff.specs.Matching.{matches_by_key}
 abbrev pub changes_of_matches : Table → Table → List Match → List Change
 changes_of_matches old new matches = flat_map (match_changes old new) matches
 
--- their lines
+-- the lines of what has changed of records that are matched
 abbrev pub match_lines : Table → Table → List Match → List ℕ
 match_lines old new matches = change_lines (changes_of_matches old new matches)
 
@@ -20,11 +20,11 @@ match_lines old new matches = change_lines (changes_of_matches old new matches)
 abbrev pub changes_in : Table → Table → List Match → List Change
 changes_in old new matches = field_changes old.schema new.schema ++ changes_of_matches old new matches
 
--- what has changed of the fields, and then of the records in the order of their keys
+-- what has changed of the fields, and then of the records, matched by their keys, in the order of these
 abbrev pub changes_by_key : Table → Table → Expr → Expr → List Change
 changes_by_key old new old_key new_key = changes_in old new (matches_by_key old new old_key new_key)
 
--- it as text
+-- what has changed, with records matched by the keys of an expression, as text
 abbrev pub diff_text_by_key : Table → Table → Expr → Expr → List ℕ
 diff_text_by_key old new old_key new_key = change_lines (changes_by_key old new old_key new_key)
 

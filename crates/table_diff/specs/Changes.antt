@@ -52,6 +52,7 @@ abbrev pub replaced_value : RecordNumbers → List ℕ → List ℕ → List ℕ
 replaced_value numbers name old_cell new_cell old_text new_text =
     if bytes_eq old_text new_text then replaced numbers name old_cell new_cell else replaced numbers name old_text new_text
 
+-- what has changed of a record's value in a field of this name, by its cells in both tables
 abbrev pub value_changes : RecordNumbers → List ℕ → Bool → ℕ → ℕ → List ℕ → List ℕ → List Change
 value_changes numbers name is_same old_kind new_kind old_cell new_cell =
     if is_same_value is_same old_kind new_kind old_cell new_cell then []
@@ -106,6 +107,6 @@ all_numbers old new = range_with_len 1 (max (length old.rows) (length new.rows))
 abbrev pub record_changes : Table → Table → List Change
 record_changes old new = flat_map (number_changes old new) (all_numbers old new)
 
--- what has changed of the fields, and then of the records
+-- what has changed of the fields, and then of the records, by their numbers
 abbrev pub changes : Table → Table → List Change
 changes old new = field_changes old.schema new.schema ++ record_changes old new

@@ -35,7 +35,7 @@ now_words numbers = if numbers.old_number == numbers.new_number then [] else cod
 abbrev pub numbers_words : RecordNumbers → List ℕ
 numbers_words numbers = record_words numbers.old_number ++ now_words numbers
 
--- that a record is marked as deleted
+-- the words that a record is marked as deleted
 abbrev pub mark_words : Bool → List ℕ
 mark_words deleted = if deleted then codes ", marked as deleted" else []
 
@@ -83,6 +83,6 @@ change_lines changes = flat_map change_line changes
 abbrev pub row_lines : Table → Table → List ℕ
 row_lines old new = change_lines (record_changes old new)
 
--- what has changed from an old table to a new one, as text
+-- what has changed from an old table to a new one, as text, a line a change
 abbrev pub diff_text : Table → Table → List ℕ
 diff_text old new = change_lines (changes old new)

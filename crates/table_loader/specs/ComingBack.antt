@@ -16,11 +16,11 @@ use Rattle.table_loader.specs.Values.{kept_number}
 abbrev pub IsNumberCell : Field → List ℕ → Type 0
 IsNumberCell f cell = (trimmed cell ≡ []) ⊎ (kept_number f (number cell f.decimals) ≡ Some cell)
 
--- it is blank, or `T` or `F`
+-- the cell is blank, or `T` or `F`
 abbrev pub IsTruthCell : List ℕ → Type 0
 IsTruthCell cell = (trimmed_end cell ≡ []) ⊎ ((truth : Bool) × (cell ≡ truth_text truth))
 
--- it is blank, or a date of the calendar
+-- the cell is blank, or a date of the calendar
 abbrev pub IsDayCell : List ℕ → Type 0
 IsDayCell cell = (trimmed_end cell ≡ []) ⊎ (is_date cell ≡ true)
 

@@ -7,7 +7,7 @@ use Rattle.csv.specs.declared.parser.State.{State}
 use Rattle.csv.specs.declared.reader.Reader.{Reader}
 use Rattle.csv.specs.declared.reader.Trim.TheVariants as trim
 
--- the mark that some programs write before a text: U+FEFF in UTF-8
+-- the byte order mark, which some programs write before a text: U+FEFF in UTF-8, EF BB BF
 abbrev pub utf8_mark : List ℕ
 utf8_mark = 0xEF ∷ 0xBB ∷ 0xBF ∷ []
 
@@ -15,8 +15,8 @@ utf8_mark = 0xEF ∷ 0xBB ∷ 0xBF ∷ []
 abbrev pub HasNoMark : List ℕ → Type 0
 HasNoMark text = (rest : List ℕ) → text ≢ utf8_mark ++ rest
 
--- The lines of a text, after a byte order mark at its start, as the reader of CSV takes them: a text between quotes may go
--- over several lines of the file, and a line of the file without a byte is none.
+-- The lines of a text of CSV, each as the texts of its cells, after a byte order mark at its start, as the kit's reader of CSV
+-- takes them: a text between quotes may go over several lines of the file, and a line of the file without a byte is none.
 abbrev pub csv_lines : List ℕ → List (List (List ℕ))
 csv_lines text = records default_config (strip_bom text)
 

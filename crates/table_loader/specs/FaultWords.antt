@@ -16,7 +16,7 @@ abbrev pub name_at_fault : List (List ℕ) → CsvFault → List ℕ
 name_at_fault names (csv.Value line field why) = slice_index_or names field []
 name_at_fault names fault = []
 
--- the name of the field at fault
+-- the name of the field whose value a text is not; none if the fault is another
 abbrev pub field_at_fault : List Field → CsvFault → List ℕ
 field_at_fault fields fault = name_at_fault (field_names fields) fault
 
@@ -36,7 +36,7 @@ line_words line words = codes "line " ++ (decimal line ++ words)
 abbrev pub column_words : ℕ → List ℕ → List ℕ
 column_words column words = codes "column " ++ (decimal column ++ words)
 
--- why a text of CSV is not loaded, where the field at fault has this name
+-- why a text of CSV is not loaded, in words; the field at fault has this name
 abbrev pub csv_words : List ℕ → CsvFault → List ℕ
 csv_words name csv.NoHeading = codes "there is no heading"
 csv_words name (csv.UnknownName column) = column_words column (codes ": no field has the name")

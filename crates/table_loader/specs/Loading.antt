@@ -50,14 +50,14 @@ row_of_line cut columns line cells fields =
     unless_fault (mark_said line (text_in_column cells columns.of_marks)) (λ deleted.
     Ok (row_marked row deleted)))
 
--- the table with the record of a line after the others. The line has as many cells as the heading
+-- the table with the record of a line after the others, or the first fault; the line has as many cells as the heading
 abbrev pub with_line : Bool → Columns → ℕ → Table → List (List ℕ) → Result Table CsvFault
 with_line cut columns line table cells =
     tested (length cells == columns.count) (CellCount line) (
     tested (nat_lt (length table.rows) MAX_RECORDS) (TableFull line) (
     unless_fault (row_of_line cut columns line cells table.schema) (λ row. Ok (with_row table row))))
 
--- the table with the records of lines, the first of which has this number
+-- the table with the records of lines, the first of which has this number, or the first fault
 abbrev pub with_lines : Bool → Columns → ℕ → Table → List (List (List ℕ)) → Result Table CsvFault
 with_lines cut columns line table [] = Ok table
 with_lines cut columns line table (cells ∷ more) =
@@ -68,13 +68,13 @@ abbrev pub unless_some : {Y : Type 0} → Option CsvFault → Result Y CsvFault 
 unless_some None outcome = outcome
 unless_some (Some fault) outcome = Err fault
 
--- the table after all lines, of which the first is the heading and the second has the number 2
+-- the table after all lines, of which the first is the heading and the second has the number 2, or the first fault
 abbrev pub loaded : Bool → Table → List (List (List ℕ)) → Result Table CsvFault
 loaded cut table [] = Err NoHeading
 loaded cut table (names ∷ lines) =
     unless_some (first_fault (names_tests table.schema [] names)) (with_lines cut (columns_by table.schema names) 2 table lines)
 
--- what a text of CSV makes of a table
+-- what a text of CSV makes of a table, or the first fault
 abbrev pub csv_loaded : Bool → Table → List ℕ → Result Table CsvFault
 csv_loaded cut table text = loaded cut table (csv_lines text)
 

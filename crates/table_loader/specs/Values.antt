@@ -26,7 +26,7 @@ abbrev pub kept_number : Field → Option ℤ → Option (List ℕ)
 kept_number f None = None
 kept_number f (Some n) = number_cell f.width f.decimals n f.decimals
 
--- that cell, or why there is none: the text is a number all the same, or it is none
+-- the cell of a number, or why there is none: the text is a number all the same, or it is none
 abbrev pub cell_or_fault : Option (List ℕ) → Option ℤ → Result (List ℕ) ValueFault
 cell_or_fault (Some cell) any_number = Ok cell
 cell_or_fault None (Some n) = Err NumberTooWide
@@ -47,6 +47,7 @@ abbrev pub truth_cell : ℕ → Option Bool → Result (List ℕ) ValueFault
 truth_cell width None = Err TypeMismatch
 truth_cell width (Some truth) = Ok (padded width (truth_text truth))
 
+-- the cell of a logical value that a text says
 abbrev pub truth_value : ℕ → List ℕ → Result (List ℕ) ValueFault
 truth_value width text = truth_cell width (truth_said text)
 

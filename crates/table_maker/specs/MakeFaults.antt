@@ -14,15 +14,15 @@ make_status make.Exists = 2
 make_status make.Unread = 4
 make_status make.NoMemory = 3
 
--- a file of the table was not written
+-- what both jobs say of a file that was not written
 abbrev pub unwritten_words : List ℕ
 unwritten_words = codes "cannot write the table"
 
--- one of its names has a file
+-- what both jobs say of a name that has a file
 abbrev pub exists_words : List ℕ
 exists_words = codes "the table, or the file of its memos, is there already: --replace replaces it"
 
--- the folder can't be read
+-- what both jobs say of a folder that can't be read
 abbrev pub unread_words : List ℕ
 unread_words = codes "cannot read the folder"
 

@@ -22,7 +22,7 @@ use Rattle.table_maker.specs.declared.fault.MakeFault.TheVariants as make
 abbrev pub table_extension : Bool → List ℕ
 table_extension in_capitals = if in_capitals then codes ".DBF" else codes ".dbf"
 
--- and that of the file of its memos
+-- the extension of the file of a table's memos, in capitals or in small letters
 abbrev pub memos_extension : Bool → List ℕ
 memos_extension in_capitals = if in_capitals then codes ".DBT" else codes ".dbt"
 
@@ -30,17 +30,17 @@ memos_extension in_capitals = if in_capitals then codes ".DBT" else codes ".dbt"
 abbrev pub dated_file : List ℕ → Table → Day → NamedFile
 dated_file name table day = record { name = name; bytes = image table day.year day.month day.day }
 
--- and that of its memos
+-- the file of a table's memos
 abbrev pub memo_file : List ℕ → Table → NamedFile
 memo_file name table = record { name = name; bytes = memo_image table }
 
--- the files of a table with a date under a stem: its own, and that of its memos where a field is a memo
+-- the files of a table with a date under a stem: its own, and that of its memos if a field is a memo
 abbrev pub files_of_table : List ℕ → Bool → Day → Table → List NamedFile
 files_of_table stem in_capitals day table =
     dated_file (stem ++ table_extension in_capitals) table day
     ∷ (if has_memos table.schema then memo_file (stem ++ memos_extension in_capitals) table ∷ [] else [])
 
--- those of the empty table of these fields
+-- the files of the empty table of these fields
 abbrev pub made_files : List ℕ → Bool → Day → List Field → List NamedFile
 made_files stem in_capitals day fields = files_of_table stem in_capitals day (empty_table fields)
 
@@ -53,7 +53,7 @@ abbrev pub AreMadeFiles : Option (List NamedFile) → List ℕ → List ℕ → 
 AreMadeFiles files list stem in_capitals day made =
     (fields : List Field) × AreFieldsIn files list fields × (made ≡ made_files stem in_capitals day fields)
 
--- the fault is one of making it, where this is the path of the list of fields
+-- the fault is one of making an empty table, where this is the path of the list of fields
 abbrev pub IsMakeJobFault : Option (List NamedFile) → List ℕ → MakeFault → Type 0
 IsMakeJobFault files list (make.Load path Unrecovered) = (path.now ≡ list) × IsUnrecovered files list
 IsMakeJobFault files list (make.Load path CannotRead) = path.now ≡ list
@@ -85,7 +85,7 @@ IsUnloaded list NoMemory told = told ≡ make.NoMemory
 IsUnloaded list why (make.Load path said) = (path.now ≡ list) × (said ≡ why)
 IsUnloaded list why told = ⊥
 
--- and of a text of it that is no list of fields
+-- what is told of a text of the list of a path that is no list of fields
 abbrev pub IsNoList : List ℕ → FieldListFault → MakeFault → Type 0
 IsNoList list fault.NoMemory told = told ≡ make.NoMemory
 IsNoList list why (make.List path said) = (path.now ≡ list) × (said ≡ why)

@@ -12,10 +12,11 @@ abbrev pub pairs_from : ℕ → List Row → Expr → List Pair
 pairs_from number [] e = []
 pairs_from number (r ∷ rs) e = record { key = key r.cells e; number = number } ∷ pairs_from (number + 1) rs e
 
--- the pairs of a table's records
+-- the pairs of all records of a table, deleted ones too
 abbrev pub pairs_of : Table → Expr → List Pair
 pairs_of table e = pairs_from 1 table.rows e
 
+-- these pairs in order: the order of a table by a key expression
 abbrev pub order : Table → Expr → List Pair
 order table e = in_order (pairs_of table e)
 

@@ -14,11 +14,11 @@ use Rattle.table_text.specs.Shown.{shown_cell}
 abbrev pub left_justified : ℕ → List ℕ → List ℕ
 left_justified width text = text ++ replicate (width - length text) BLANK
 
--- a text in a column of a kind: a number's at the right, and every other at the left
+-- a text in a column of a kind: a number's at the right, every other at the left
 unfoldable pub aligned : ℕ → ℕ → List ℕ → List ℕ
 aligned kind width text = if kind == NUMBER then right_justified width text else left_justified width text
 
--- the column of each field from the one with this index on, each after a blank
+-- texts in columns: the column of each field from the one with this index on, each after a blank
 abbrev pub columns_text : List ℕ → (ℕ → Field → List ℕ) → ℕ → List Field → List ℕ
 columns_text widths text index [] = []
 columns_text widths text index (f ∷ fs) = BLANK ∷ (aligned f.kind (slice_index widths index) (text index f) ++ columns_text widths text (index + 1) fs)

@@ -18,8 +18,8 @@ wants_quotes byte = ((byte == COMMA || byte == QUOTE) || byte == CR) || byte == 
 abbrev pub quoted_byte : ℕ → List ℕ
 quoted_byte byte = if byte == QUOTE then QUOTE ∷ QUOTE ∷ [] else byte ∷ []
 
--- A text as a field: between quotes where it has a byte that wants them, or is empty and alone in its line, which would
--- be an empty line; and else as it is.
+-- A text as a field of CSV: between quotes if it has a byte that needs them, or is empty and alone in its line, which would be an
+-- empty line; and else as it is.
 unfoldable pub csv_field : Bool → List ℕ → List ℕ
 csv_field alone text =
     if list_any wants_quotes text || (alone && (length text == 0)) then QUOTE ∷ (flat_map quoted_byte text ++ QUOTE ∷ []) else text
@@ -60,12 +60,12 @@ mark_field deleted_column deleted = if deleted_column then (if deleted then code
 abbrev pub csv_heading : Bool → Table → List ℕ
 csv_heading deleted_column table = csv_fields (λ _ f. f.name) 0 table.schema ++ (mark_heading deleted_column ++ CR ∷ LF ∷ [])
 
--- a record's line
+-- a record's line of CSV
 abbrev pub csv_line : Bool → Table → ℕ → List ℕ
 csv_line deleted_column table number =
     csv_fields (csv_cell deleted_column table number) 0 table.schema ++ (mark_field deleted_column (row_at table number).deleted ++ CR ∷ LF ∷ [])
 
--- the records that are shown: the names of the fields, and a line for each record
+-- a table as CSV: the names of the fields, and a line for each record that is shown
 abbrev pub csv_text : Table → Option (List ℕ) → Selection → Bool → List ℕ
 csv_text table order selection deleted_column =
     csv_heading deleted_column table ++ flat_map (csv_line deleted_column table) (selected table order selection)

@@ -38,6 +38,6 @@ record_line table shown memos number = line_with (number_width table) (column_wi
 abbrev pub shown_text : Table → List ℕ → MemoForm → List ℕ
 shown_text table shown memos = heading_line table shown memos ++ flat_map (record_line table shown memos) shown
 
--- the text of a table: the headings, and the line of each record that is shown, in the order in which they are
+-- a table as people read it: the headings, and the line of each record that is shown, in the order in which they are
 abbrev pub records_text : Table → Option (List ℕ) → Selection → MemoForm → List ℕ
 records_text table order selection memos = shown_text table (selected table order selection) memos

@@ -14,7 +14,7 @@ abbrev pub is_asked_for : Table → Selection → ℕ → Bool
 is_asked_for table selection number =
     is_in_range selection.first selection.last number && (selection.with_deleted || not (row_at table number).deleted)
 
--- the record of the number is shown
+-- the record of the number is shown: it is asked for, and it is kept, or marked ones are shown too
 abbrev pub is_selected : Table → Selection → ℕ → Bool
 is_selected table selection number = has_record table number && is_asked_for table selection number
 

@@ -25,6 +25,7 @@ shown_byte byte =
     (if byte == BACKSLASH then BACKSLASH ∷ BACKSLASH ∷ [] else
     BACKSLASH ∷ HEX_MARK ∷ hex_digit (byte / 16) ∷ hex_digit (byte % 16) ∷ [])
 
+-- bytes as they are shown, one after the other
 abbrev pub shown_bytes : List ℕ → List ℕ
 shown_bytes bytes = flat_map shown_byte bytes
 

@@ -70,6 +70,6 @@ count_line record_count = codes "Records: " ++ (decimal record_count ++ LF ∷ [
 abbrev pub date_line : Option Day → List ℕ
 date_line date = codes "Last change: " ++ (date_words date ++ LF ∷ [])
 
--- the number of records, the date of the last change, headings, and the fields
+-- what a table's fields are: the number of records, the date of the last change, headings, and the fields
 abbrev pub fields_text : Table → Option Day → List ℕ
 fields_text table date = count_line (length table.rows) ++ (date_line date ++ (structure_heading ++ (LF ∷ field_lines 1 table.schema)))

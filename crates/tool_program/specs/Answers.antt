@@ -55,7 +55,7 @@ IsShownAs files options old new Differ = ⊥
 IsShownAs files options old new Refused = ⊥
 IsShownAs files options old new Unread = Unit {0}
 
--- the index file of a path was
+-- the index file of a path was shown
 abbrev pub IsTreeShownAs : Option (List NamedFile) → List ℕ → Option (List ℕ) → Option (List ℕ) → ToolReport → Type 0
 IsTreeShownAs files path old new Good = IsTreeShown files path old new
 IsTreeShownAs files path old new NotOpened = ⊥
@@ -63,7 +63,7 @@ IsTreeShownAs files path old new Differ = ⊥
 IsTreeShownAs files path old new Refused = ⊥
 IsTreeShownAs files path old new Unread = Unit {0}
 
--- all was told of a setup: the server would open it, or would not
+-- all was said of a setup: the server would open it, or would not
 abbrev pub IsCheckedAs : Option (List NamedFile) → Loads → CheckOptions → Option (List ℕ) → Option (List ℕ) → ToolReport → Type 0
 IsCheckedAs files loads options old new Good =
     IsTold files loads options.setup.now options.bad_lines true old new × IsVerdict files loads options.setup.now true
@@ -114,7 +114,7 @@ IsPlacedIn {D} m opens files (Make options) = IsPlacedBy m (opens (folder_of_pat
 IsPlacedIn {D} m opens files (Load options) = IsLoadPlacedBy m (opens (folder_of_path options.out.now)) files options
 IsPlacedIn {D} m opens files asked = Unit {0}
 
--- and one that these words ask for
+-- a table that these words ask for was put into its folder
 abbrev pub IsPlacedTo : {D : Type 0} → DiskMeaning D → (List ℕ → D → Type 0) → Option (List NamedFile) → List (List ℕ) → Type 0
 IsPlacedTo {D} m opens files words = (asked : Asked) × IsAskedIn words asked × IsPlacedIn m opens files asked
 
@@ -123,7 +123,7 @@ abbrev pub IsTakenIn : {D : Type 0} → DiskMeaning D → (List ℕ → D → Ty
 IsTakenIn {D} m opens (Make options) = IsTakenBy m (opens (folder_of_path options.out.now)) options
 IsTakenIn {D} m opens asked = Unit {0}
 
--- and of one that these words ask for
+-- a file stood in the way of a table that these words ask for
 abbrev pub IsTakenTo : {D : Type 0} → DiskMeaning D → (List ℕ → D → Type 0) → List (List ℕ) → Type 0
 IsTakenTo {D} m opens words = (asked : Asked) × IsAskedIn words asked × IsTakenIn m opens asked
 
@@ -132,7 +132,7 @@ abbrev pub IsLoadTakenIn : {D : Type 0} → DiskMeaning D → (List ℕ → D �
 IsLoadTakenIn {D} m opens (Load options) = IsLoadTakenBy m (opens (folder_of_path options.out.now)) options
 IsLoadTakenIn {D} m opens asked = Unit {0}
 
--- and of one that these words ask for
+-- a file stood in the way of the new table of records that these words ask to load
 abbrev pub IsLoadTakenTo : {D : Type 0} → DiskMeaning D → (List ℕ → D → Type 0) → List (List ℕ) → Type 0
 IsLoadTakenTo {D} m opens words = (asked : Asked) × IsAskedIn words asked × IsLoadTakenIn m opens asked
 
@@ -142,7 +142,7 @@ HasFailedIn {D} m opens (Make options) = HasFailed m (opens (folder_of_path opti
 HasFailedIn {D} m opens (Load options) = HasFailed m (opens (folder_of_path options.out.now))
 HasFailedIn {D} m opens asked = Unit {0}
 
--- and of the folder for one that these words ask for
+-- a call of the disk of the folder for a table that these words ask for has failed
 abbrev pub HasFailedTo : {D : Type 0} → DiskMeaning D → (List ℕ → D → Type 0) → List (List ℕ) → Type 0
 HasFailedTo {D} m opens words = (asked : Asked) × IsAskedIn words asked × HasFailedIn m opens asked
 
@@ -208,7 +208,7 @@ IsTrueOfSetup files unread path check.CannotRead = unread path
 IsTrueOfSetup files unread path check.Unrecovered = IsUnrecovered files path
 IsTrueOfSetup files unread path fault = TellsBadLine files path fault
 
--- why a setup was not checked, or not all of it told
+-- why a setup was not checked, or not all was said of it
 abbrev pub IsWhyUnchecked : Option (List NamedFile) → (List ℕ → Type 0) → List ℕ → ToolFault → Type 0
 IsWhyUnchecked files unread path fault = (why : CheckFault) × IsToolFaultOfSetup why path fault × IsTrueOfSetup files unread path why
 
@@ -222,7 +222,8 @@ abbrev pub IsWhyNoAnswers : Option (List NamedFile) → Option ℕ → Option �
 IsWhyNoAnswers files before after options fault =
     (why : AnswersFault) × IsToolFaultOfAnswers why options.answers.now fault × IsWhyUnpaired files before after options why
 
--- why what is asked for was not written, or not all of it, between these counts of failed loads
+-- why what is asked for was not written, or not all of it, between these counts of failed loads; `unread` says of a path that its
+-- file was not had
 abbrev pub IsWhyUnanswered : Option (List NamedFile) → Option ℕ → Option ℕ → Asked → ToolFault → Type 0
 IsWhyUnanswered files before after (Show options) = IsWhyUnshown files before after options
 IsWhyUnanswered files before after (Check options) = IsWhyUnchecked files (IsNotHad files before after) options.setup.now

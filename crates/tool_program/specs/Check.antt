@@ -56,11 +56,11 @@ pub record IsSetupRead (files : Option (List NamedFile)) (loads : Loads) (path :
   pub read : AreEntriesRead files entries reads
   pub loaded : loads entries reads days
 
--- the fault is that of the first entry whose files are refused, or no entry's are, and it is one of opening
+-- a fault is that of the first entry whose files are refused; or no entry's are, and it is one of opening
 abbrev pub IsFirstFault : List SetupEntry → List (Result EntryContent EntryFault) → ServeFault → Type 0
 IsFirstFault entries reads fault = (first_refused entries reads ≡ Some fault) ⊎ ((first_refused entries reads ≡ None) × (why : OpenFault) × (fault ≡ Refused why))
 
--- whether it opens all; where it does not, why is one of what was read
+-- whether the server opens all; if it does not, why is one of what was read
 abbrev pub IsVerdict : Option (List NamedFile) → Loads → List ℕ → Bool → Type 0
 IsVerdict files loads path true = IsOpening files path None
 IsVerdict files loads path false =
@@ -96,7 +96,7 @@ abbrev pub IsBadLineFault : List ℕ → ℕ → CheckFault → Type 0
 IsBadLineFault text number (BadLine told why) = (told ≡ number) × IsReasonOf text number why
 IsBadLineFault text number fault = ⊥
 
--- the fault is one of a setup's lines, the first that is bad, or a want of memory at a line that may stand there
+-- a fault is one of a setup's lines: the first that is bad, and why, or out of memory at a line that may stand there
 abbrev pub IsLineFault : List ℕ → CheckFault → Type 0
 IsLineFault text (BadLine number why) = IsSetup text (Err number) × IsReasonOf text number why
 IsLineFault text NoMemory = HasNextEntry text
@@ -107,7 +107,7 @@ abbrev pub TellsBadLine : Option (List NamedFile) → List ℕ → CheckFault �
 TellsBadLine files path (BadLine number why) = (text : List ℕ) × IsFileOf files path text × IsLineFault text (BadLine number why)
 TellsBadLine files path fault = Unit {0}
 
--- after this fault nothing was told: after each but a failure of the sink
+-- a fault after which nothing was printed: each except a failure of the sink
 abbrev pub TellsNothing : CheckFault → Type 0
 TellsNothing CannotRead = Unit {0}
 TellsNothing Unrecovered = Unit {0}

@@ -85,7 +85,7 @@ shown_app =
     with_subcommand (with_subcommand (with_subcommand (with_subcommand (with_subcommand bare_app show_app.top) fields_app.top) csv_app.top) check_app.top)
     tree_app.top
 
--- the program and its sub-commands
+-- the program, its sub-commands and their options
 abbrev pub tool_app : App
 tool_app = with_subcommand (with_subcommand (with_subcommand (with_subcommand shown_app make_app.top) load_app.top) diff_app.top) answers_app.top
 

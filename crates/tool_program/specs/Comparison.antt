@@ -73,7 +73,7 @@ abbrev pub IsOfText : CompareFault → Type 0
 IsOfText (OfText why) = Unit {0}
 IsOfText fault = ⊥
 
--- the text is no key expression for the fields of a table, whose path the fault tells
+-- the text is no key expression for the fields of a table, whose path the fault tells, and the fault is the rule that it breaks
 abbrev pub IsBadKey : List ℕ → List Field → List ℕ → CompareFault → Type 0
 IsBadKey path fields text (OfKey told why) = (told.now ≡ path) × IsFault why fields text
 IsBadKey path fields text fault = ⊥
@@ -87,7 +87,7 @@ IsWhyNoKey old_table new_table options fault = IfSome (option_copied options.key
 abbrev pub IsUntoldOf : Table → Table → DiffOptions → CompareFault → Type 0
 IsUntoldOf old_table new_table options fault = IsWhyNoKey old_table new_table options fault ⊎ IsOfText fault
 
--- it was not told of the tables whose files stand at the paths of the options
+-- why not all was told of the tables whose files stand at the paths of the options
 pub record IsWhyUntold (files : Option (List NamedFile)) (options : DiffOptions) (fault : CompareFault) : Type 0 where
   pub old_table : Table
   pub new_table : Table

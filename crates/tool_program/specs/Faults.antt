@@ -33,8 +33,8 @@ use Rattle.tool_program.specs.Reasons.{check_reason, key_reason, pair_reason, sh
 
 -- ---- of which file
 
--- The path of the file that a fault of showing a table is one of: that of the index or of the file of memos, where it is given and
--- the fault is one of it, and else the table's. Of a file of memos that is not given its folder alone is told, which is the table's.
+-- The path of the file that a fault of showing a table is one of: that of the index or of the memo file, if it is given and the
+-- fault is one of it, and else the table's. Of a memo file that is not given only its folder is named, which is the table's.
 abbrev pub path_at_fault : Options → ShowFault → List ℕ
 path_at_fault options (show.Load why) = options.table.now
 path_at_fault options (show.Memos why) = unwrap_or (option_copied options.memos) options.table.now
@@ -69,7 +69,7 @@ is_no_memory (show.Order why) = is_order_no_memory why
 is_no_memory (show.Text text.NoMemory) = true
 is_no_memory (show.Text text.Sink) = false
 
--- what a fault of the file of a path is told as: with the path, but for a want of memory and a failure of the output
+-- what is said of a fault of the file of a path: with the path, except out of memory and a failure of the output
 abbrev pub IsToolFaultOf : ShowFault → List ℕ → ToolFault → Type 0
 IsToolFaultOf fault path tool.BadRange = ⊥
 IsToolFaultOf fault path tool.NoMemory = is_no_memory fault ≡ true
@@ -88,7 +88,7 @@ IsSetupTold check.NoMemory = ⊥
 IsSetupTold check.Sink = ⊥
 IsSetupTold fault = Unit {0}
 
--- what a fault of the setup of a path is told as: with the path, but for a want of memory and a failure of the output
+-- what is said of a fault of the setup of a path: with the path, except out of memory and a failure of the output
 abbrev pub IsToolFaultOfSetup : CheckFault → List ℕ → ToolFault → Type 0
 IsToolFaultOfSetup fault path tool.BadRange = ⊥
 IsToolFaultOfSetup fault path tool.NoMemory = fault ≡ check.NoMemory

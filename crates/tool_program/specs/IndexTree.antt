@@ -13,7 +13,7 @@ pub record IsTreeShown (files : Option (List NamedFile)) (path : List ℕ) (old 
   pub found : IsFileOf files path bytes
   pub wrote : new ≡ grown old (tree_text bytes)
 
--- so may it fail: the file isn't had, or its text is not written
+-- why an index file was not shown: the file isn't had, or its text is not written
 abbrev pub IsTreeFault : ShowFault → Type 0
 IsTreeFault (Load why) = Unit {0}
 IsTreeFault (Memos why) = ⊥

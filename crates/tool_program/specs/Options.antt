@@ -101,8 +101,8 @@ abbrev pub IsOfShow : Text → Type 0
 IsOfShow name =
     (name ≢ codes "check") × (name ≢ codes "tree") × (name ≢ codes "make") × (name ≢ codes "load") × (name ≢ codes "diff") × (name ≢ codes "answers")
 
--- what a sub-command of this name, with these options, asks for: `check` of a setup, `tree` of an index, `make` of a table that is made,
--- `load` of records that are loaded, `diff` of two tables, `answers` of a script, any other of a table
+-- What a sub-command of this name, with these options, asks for: `check` of a setup, `tree` of an index, `make` of a table that is
+-- made, `load` of records that are loaded, `diff` of two tables, `answers` of a script, any other of a table (`IsOfShow`).
 abbrev pub IsAskedBy : Text → List Row → Asked → Type 0
 IsAskedBy name rows (Show options) = IsOfShow name × IsOfTable name rows options
 IsAskedBy name rows (Check options) = (name ≡ codes "check") × IsOfSetup rows options
@@ -160,7 +160,7 @@ abbrev pub HasPath : Option (Text × List Row) → Type 0
 HasPath None = ⊥
 HasPath (Some read) = IsSome (path_of read.0 read.1)
 
--- its range of records is none
+-- the range of records of a command line is none
 abbrev pub AsksBadRange : Option (Text × List Row) → Type 0
 AsksBadRange None = ⊥
 AsksBadRange (Some read) = HasBadRange read.1

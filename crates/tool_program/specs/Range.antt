@@ -26,5 +26,6 @@ abbrev pub range_at : Option ℕ → List ℕ → Option (ℕ × ℕ)
 range_at None text = both (record_number text) (record_number text)
 range_at (Some i) text = both (record_number (take i text)) (record_number (drop (i + 1) text))
 
+-- which records a range on the command line names
 abbrev pub range_in : List ℕ → Option (ℕ × ℕ)
 range_in text = range_at (position (λ b. b == MINUS) text) text

@@ -45,7 +45,7 @@ pub record AreOwnPairs (opened : Opened) (journal : List Entry) (station : ℕ) 
   pub rows : AreShownIn (status_rows (history opened journal)) station 0 0 shown
   pub own : pairs ≡ paired asked (lines_of_shown shown)
 
--- the pairs of a script and an answer file, where there are no others: `pair_answers` answers no pairs but these
+-- the pairs of a script and an answer file, if there are no others: `pair_answers` answers no pairs but these
 pub record AreOnlyPairs (script answers : List ℕ) (pairs : List PairedLine) : Type 0 where
   pub are : ArePairs script answers pairs
   pub alone : (other : List PairedLine) → ArePairs script answers other → other ≡ pairs
@@ -65,7 +65,7 @@ pub record HasOwnAnswers (written : List NamedFile) (opened : Opened) (journal :
   pub file : Contains written (answer_file station text)
   pub together : BelongTogether opened journal station script text
 
--- so it is of each station of a history, where these are the scripts
+-- the answer file of each station of a history belongs to its script, where these are the scripts
 abbrev pub AllHaveOwnAnswers : List NamedFile → History → List (List ℕ) → Type 0
 AllHaveOwnAnswers written h scripts =
     (i : ℕ) → i < h.opened.stations → (script : List ℕ) × (slice_get scripts i ≡ Some script) × HasOwnAnswers written h.opened h.journal (i + 1) script
@@ -87,7 +87,8 @@ ShowsOwnAnswers opened journal station =
     (files : Option (List NamedFile)) (options : AnswersOptions) (refused : Bool) (old new : Option (List ℕ)) (shown : ArePaired files options refused old new)
     → IsReport opened journal station shown.script shown.answers → AreOwnPairs opened journal station shown.script shown.pairs
 
--- it does not say that they can't belong together; and where each answer is one line it fails to pair them only for want of memory
+-- `table_tool answers` does not say of a script and its answers in a run that they can't belong together; and where each answer is
+-- one line it fails to pair them only out of memory
 abbrev pub NeverParted : Opened → List Entry → ℕ → Type 0
 NeverParted opened journal station =
     (files : Option (List NamedFile)) (options : AnswersOptions) (fault : PairFault) (parted : AreUnpaired files options fault)

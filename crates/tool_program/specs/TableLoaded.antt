@@ -33,7 +33,7 @@ IsBadLoad options tool.BadOut = (stem : List ℕ) (in_capitals : Bool) → ¬ Is
 IsBadLoad options (tool.Load failure.BadDate) = ¬ IsRunDate options.today.now
 IsBadLoad options why = ⊥
 
--- a want of memory is told as such
+-- out of memory is said as such
 abbrev pub told_of_load : Failure LoadJobFault → ToolFault
 told_of_load (failure.Work load.NoMemory) = tool.NoMemory
 told_of_load why = tool.Load why

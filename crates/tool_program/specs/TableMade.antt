@@ -33,7 +33,7 @@ IsBadMake options tool.BadOut = (stem : List ℕ) (in_capitals : Bool) → ¬ Is
 IsBadMake options (tool.Make failure.BadDate) = ¬ IsRunDate options.today.now
 IsBadMake options why = ⊥
 
--- a want of memory is told as such
+-- out of memory is said as such
 abbrev pub told_of : Failure MakeFault → ToolFault
 told_of (failure.Work make.NoMemory) = tool.NoMemory
 told_of why = tool.Make why
@@ -48,7 +48,7 @@ IsPlacedBy {D} m is_opened files options =
 abbrev pub IsTakenBy : {D : Type 0} → DiskMeaning D → (D → Type 0) → MakeOptions → Type 0
 IsTakenBy {D} m is_opened options = (job : MakeJob) × IsJobOf options job × IsInTheWay m is_opened (IsFreeOfTable job)
 
--- why it was not
+-- why a table was not made
 abbrev pub IsWhyNoTableMade : Option (List NamedFile) → MakeOptions → ToolFault → Type 0
 IsWhyNoTableMade files options fault =
     IsBadMake options fault

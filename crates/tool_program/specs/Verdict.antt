@@ -36,7 +36,7 @@ open_words (open_fault.BadExpression table index fault) = index_words table inde
 open_words (open_fault.IndexStale table index) = index_words table index ++ codes " is stale"
 open_words open_fault.NoMemory = codes "out of memory"
 
--- why the server opens nothing. What a run or a close ends in is none of opening.
+-- Why the server opens nothing, in words. What a run or a close ends in is none of opening.
 abbrev pub unopened_words : ServeFault → List ℕ
 unopened_words (serve.Setup number) = codes "line " ++ (decimal number ++ codes " of the setup is bad")
 unopened_words (serve.File path fault) = path ++ file_words fault

@@ -34,8 +34,8 @@ abbrev pub IsBeforeText : ShowFault → Type 0
 IsBeforeText (Text why) = ⊥
 IsBeforeText fault = Unit {0}
 
--- What a sink has after a table was shown: the text that was asked for, of the table whose files stand at the paths of the
--- options, in the order of the index. The date is the one that the table's header tells, and there is none only where that tells none.
+-- What a sink has after a table was shown: the text that was asked for, of the table whose files stand at the paths of the options,
+-- in the order of the index. The date is the one that the table's header has, and there is none only if that has none.
 pub record IsShown (files : Option (List NamedFile)) (options : Options) (old new : Option (List ℕ)) : Type 0 where
   pub dbf : List ℕ
   pub dbt : Option (List ℕ)

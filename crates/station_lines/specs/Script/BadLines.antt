@@ -16,7 +16,8 @@ abbrev pub is_bad : Line → Bool
 is_bad (Run Bad) = true
 is_bad line = false
 
--- why a line is bad
+-- Why a line is bad: a byte order mark, a 1A at the end, `&&` outside of texts, a missing blank after `?`, an unknown first word,
+-- another word in a keyword's place, a text that is open at the end, a word too many, another form.
 pub data Reason : Type 0 where
   byte_order_mark : Reason
   end_mark : Reason
@@ -140,6 +141,7 @@ word_reason first rest line =
     if lacks_blank first then no_blank
     else (if is_keyword (codes "INDEX") first then index_reason rest else known_reason (verb_in first) first rest line)
 
+-- why a line is bad: the first of these that is so of it
 abbrev pub reason_of : List ℕ → Reason
 reason_of line =
     if begins_with_mark line then byte_order_mark

@@ -4,7 +4,7 @@ use Rattle.catalogue_core.specs.declared.command.Command.TheVariants.{UseTable, 
 use Rattle.station_lines.specs.declared.script.line.Line.{Line}
 use Rattle.station_lines.specs.declared.script.line.Line.TheVariants.{Run}
 
--- a command that keeps a name, a text or a list of its line
+-- a command that keeps a name, a text, an expression or a list of records of its line
 abbrev pub keeps_text : Line → Bool
 keeps_text (Run (UseTable name exclusive)) = true
 keeps_text (Run (Seek text)) = true

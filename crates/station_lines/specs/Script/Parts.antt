@@ -24,7 +24,7 @@ is_keyword keyword word =
 abbrev pub is_call : List ℕ → List ℕ → Bool
 is_call function word = str_eq_ignore_ascii_case word function
 
--- the name of a call with its parentheses
+-- a call after `?` with nothing in its parentheses: its name with these
 abbrev pub call_text : CallName → List ℕ
 call_text Rlock = codes "RLOCK()"
 call_text Lock = codes "LOCK()"

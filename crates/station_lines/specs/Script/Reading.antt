@@ -277,7 +277,7 @@ after_on rest =
 abbrev pub after_index : List ℕ → Line
 after_index rest = if is_keyword (codes "ON") (first_word rest) then after_on (after_word rest) else bad
 
--- what is made of a line
+-- what the reader makes of a line, word by word
 abbrev pub read : List ℕ → Line
 read line =
     if is_empty (first_word line) || begins_with_asterisk (first_word line) then Blank

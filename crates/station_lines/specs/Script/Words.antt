@@ -12,7 +12,7 @@ is_gap b = b == BLANK || b == TAB
 abbrev pub are_gaps : List ℕ → Bool
 are_gaps text = list_all is_gap text
 
--- a byte is next that is no blank and no tab
+-- a byte is next that is neither blank nor tab
 abbrev pub begins_word : List ℕ → Bool
 begins_word [] = false
 begins_word (b ∷ bs) = not (is_gap b)
@@ -32,7 +32,7 @@ abbrev pub begins_with_asterisk : List ℕ → Bool
 begins_with_asterisk [] = false
 begins_with_asterisk (b ∷ bs) = b == ASTERISK
 
--- a line without words, or whose first word begins with `*`
+-- a line of nothing or of a remark: without words, or with a first word that begins with `*`
 abbrev pub IsBlankLine : List ℕ → Type 0
 IsBlankLine line =
     (gap : List ℕ) × (rest : List ℕ) × (line ≡ gap ++ rest) × (are_gaps gap ≡ true) × ((rest ≡ []) ⊎ (begins_with_asterisk rest ≡ true))
