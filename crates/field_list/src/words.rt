@@ -16,11 +16,14 @@ fn line_words(why: FieldLineFault) -> &'static [u8]
 {
     match why {
         FieldLineFault::NoKind => {
-            b"the word after the name is none of Character, Number, Logical, Date and Memo"
+            b"the word after the name is none of Character, Number, Logical, Date and Memo: blanks stand between the words, as in NAME Character 30"
         }
-        FieldLineFault::NoWidth => b"the word after the kind is no number up to 255",
-        FieldLineFault::NoDecimals => b"the word after the width is no number up to 255",
-        FieldLineFault::WordTooMany => b"it has a word too many",
+        FieldLineFault::NoWidth =>
+            b"the word after the kind is no number up to 255: a width stands there, as in BORN Date 8",
+        FieldLineFault::NoDecimals =>
+            b"the word after the width is no number up to 255: decimals stand there, as in DUES Number 7 2",
+        FieldLineFault::WordTooMany =>
+            b"it has a word too many: name, kind, width and the decimals of a Number are all",
     }
 }
 
@@ -29,12 +32,14 @@ fn field_words(why: SchemaFault) -> &'static [u8]
     ensures value { result.now ≡ words_of_field why }
 {
     match why {
-        SchemaFault::BadFieldCount => b"the field is one too many",
-        SchemaFault::BadName => b"the field's name is bad",
+        SchemaFault::BadFieldCount => b"the field is one too many: a table has at most 128",
+        SchemaFault::BadName =>
+            b"the field's name is bad: 1 to 10 letters, digits or _, a letter first",
         SchemaFault::DuplicateName => b"the field has the name of an earlier one",
         SchemaFault::BadKind => b"the field is of no known kind",
-        SchemaFault::BadWidth => b"the field's width is bad",
-        SchemaFault::RecordTooLong => b"with the field a record is too long",
+        SchemaFault::BadWidth =>
+            b"the field's width is bad: Character 1 to 254, Number 1 to 19 and more than its decimals, Logical 1, Date 8, Memo 10",
+        SchemaFault::RecordTooLong => b"with the field a record is too long: at most 4,000 bytes",
         SchemaFault::NoMemory => b"out of memory",
     }
 }

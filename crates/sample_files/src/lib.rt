@@ -1,20 +1,17 @@
 //! Files that the tests of several crates read and compare with, written down from the published layouts.
 //!
 //! They are a crate of their own, which stands as low as its callers: it knows tables, and neither catalogues nor
-//! stations. [`table`] reads one of the table files; [`with_zeros`] fills a page or a block up; [`two_leaves`] is the file of
-//! an index of three pages.
+//! stations. [`table`] reads one of the table files; [`with_zeros`] fills a page or a block up.
 #![tactic(auto)]
 
 ghost use Rattle.std.specs.Prelude.{◌≡◌, ◌++◌, ◌-◌, ◌≤◌, IfOk, None, length, replicate};
 ghost use Rattle.dbf_image.specs.DbfText.{IsDbf};
 
 mod files;
-mod index_file;
 
 use byte_io::Bytes;
 use dbf_image::{ImageFault, TableData, read_table};
 pub use files::{EMPTY, EMPTY_INDEX, NOTE, TABLE, WITH_CYD};
-pub use index_file::{FIRST_LEAF, ROOT, SECOND_LEAF, two_leaves};
 use std::alloc::{AllocError, Global};
 
 /// The table of a file without memos.

@@ -112,7 +112,7 @@ turned_end : (bs : List ℕ) → trimmed bs ≡ trimmed_end (without_leading bs)
 unfolding trimmed trimmed_end
 turned_end bs = refl
 
-end_twice : (bs : List ℕ) → trimmed_end (trimmed_end bs) ≡ trimmed_end bs
+pub end_twice : (bs : List ℕ) → trimmed_end (trimmed_end bs) ≡ trimmed_end bs
 unfolding trimmed_end
 end_twice bs =
     let inner = without_leading (reverse bs) in
@@ -130,6 +130,10 @@ front_kept bs (t ∷ ts) k none is = elim (cases_Bool (t == BLANK)) [
       absurd (omega (arith, ap length less, lengths, length-append (blanks n) (without_leading (ts ++ blanks k))))
   | inr other ↦ rw other refl
 ]
+
+-- digits have none
+pub digits_trimmed : (ds : List ℕ) → list_all is_ascii_digit ds ≡ true → trimmed ds ≡ ds
+digits_trimmed ds all = turned_end ds ∙ ap trimmed_end (digits_front ds all) ∙ digits_end ds all
 
 pub trimmed_twice : (bs : List ℕ) → trimmed (trimmed bs) ≡ trimmed bs
 trimmed_twice bs =

@@ -1,9 +1,10 @@
 -- A byte order mark before a text is passed over.
-use Rattle.std.proofs.Common.{◌≡◌, ℕ, Bool, true, List, [], ◌∷◌, ◌++◌, inl, inr, refl, ap, sym, ◌∙◌, ◌&&◌, eqb}
+use Rattle.std.proofs.Common.{◌≡◌, ℕ, true, List, [], ◌∷◌, ◌++◌, inl, inr, refl, ap, sym, ◌∙◌, ◌&&◌, eqb}
 use Rattle.std.proofs.lemmas.Bool.{and_parts, eqb-true, cond-false, cases_Bool}
-use Rattle.csv.specs.Reading.{default_config, is_bom, records, strip_bom}
+use Rattle.csv.specs.Reading.{is_bom, records, strip_bom}
 use Rattle.dbf_image.specs.Table.{Table}
-use Rattle.table_loader.specs.CsvText.{utf8_mark, HasNoMark}
+use Rattle.table_loader.specs.declared.form.CsvForm.{CsvForm}
+use Rattle.table_loader.specs.CsvText.{separated, separator_byte, utf8_mark, HasNoMark}
 use Rattle.table_loader.specs.Loading.{csv_loaded, loaded}
 
 is_marked : (a b c : ℕ) (rest : List ℕ) → is_bom a b c ≡ true → a ∷ b ∷ c ∷ rest ≡ utf8_mark ++ rest
@@ -31,5 +32,5 @@ stripped : (text : List ℕ) → strip_bom (utf8_mark ++ text) ≡ text
 unfolding strip_bom
 stripped text = refl
 
-pub passed_over : (cut : Bool) (table : Table) (text : List ℕ) → HasNoMark text → csv_loaded cut table (utf8_mark ++ text) ≡ csv_loaded cut table text
-passed_over cut table text none = ap (λ (left : List ℕ). loaded cut table (records default_config left)) (stripped text ∙ sym (no_mark text none))
+pub passed_over : (form : CsvForm) (table : Table) (text : List ℕ) → HasNoMark text → csv_loaded form table (utf8_mark ++ text) ≡ csv_loaded form table text
+passed_over form table text none = ap (λ (left : List ℕ). loaded form table (records (separated (separator_byte form.separator)) left)) (stripped text ∙ sym (no_mark text none))

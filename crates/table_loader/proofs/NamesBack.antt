@@ -15,7 +15,7 @@ use Rattle.dbf_fields.specs.Field.{folded, has_name, has_width, is_kind}
 use Rattle.dbf_fields.specs.Name.{is_name}
 use Rattle.dbf_fields.specs.Schema.{tests_from, IsSchema}
 use Rattle.dbf_fields.proofs.SchemaLaws.{passed}
-use Rattle.table_loader.specs.Headings.{column_of, is_named, mark_name, names_tests}
+use Rattle.table_loader.specs.Headings.{column_name, column_of, is_named, mark_name, names_tests}
 
 -- ---- what a schema says of each of its fields
 
@@ -25,6 +25,7 @@ pub record IsGood (earlier : List Field) (f : Field) : Type 0 where
   pub kind : is_kind f.kind ≡ true
   pub wide : has_width f ≡ true
   pub no_mark : bytes_eq f.name mark_name ≡ false
+  pub capitals : map to_ascii_uppercase f.name ≡ f.name
 
 abbrev pub AreGood : List Field → List Field → Type 0
 AreGood earlier [] = Unit {0}
@@ -60,7 +61,7 @@ good_from earlier (f ∷ fs) accepted kept =
     let wide = passed (has_width f) _ _ kind.1 in
     let alone : has_name earlier f.name ≡ false = not_true (has_name earlier f.name) (ap (λ (g : Field). not (has_name earlier g.name)) (sym here) ∙ new.0) in
     let rest : first_fault (tests_from (earlier ++ f ∷ []) fs) ≡ None = ap (λ (g : Field). first_fault (tests_from (earlier ++ g ∷ []) fs)) (sym here) ∙ wide.1 in
-    (record { named = name.0; new = alone; kind = kind.0; wide = wide.0; no_mark = no_mark f here }, good_from (earlier ++ f ∷ []) fs rest later)
+    (record { named = name.0; new = alone; kind = kind.0; wide = wide.0; no_mark = no_mark f here; capitals = ap (λ (g : Field). g.name) here }, good_from (earlier ++ f ∷ []) fs rest later)
 
 pub schema_good : (fields : List Field) → IsSchema fields → AreGood [] fields
 schema_good fields schema = good_from [] fields (passed (is_in_range 1 MAX_FIELDS (length fields)) _ _ schema.accepted).1 schema.kept
@@ -96,6 +97,17 @@ names_good all earlier (f ∷ fs) is (here, later) unmarked =
 -- the heading of a schema has no fault
 pub heading_accepted : (fields : List Field) → AreGood [] fields → first_fault (names_tests fields [] (names_of fields ++ mark_name ∷ [])) ≡ None
 heading_accepted fields good = names_good fields [] fields refl good refl
+
+-- ---- they are the fields' own
+
+name_kept : (earlier : List Field) (f : Field) → IsGood earlier f → column_name f.name ≡ f.name
+name_kept earlier f good = rw good.no_mark good.capitals
+
+pub names_kept : (earlier fs : List Field) → AreGood earlier fs → map column_name (names_of fs ++ mark_name ∷ []) ≡ names_of fs ++ mark_name ∷ []
+names_kept earlier [] good = refl
+names_kept earlier (f ∷ fs) (here, later) =
+    ap (λ (x : List ℕ). x ∷ map column_name (names_of fs ++ mark_name ∷ [])) (name_kept earlier f here)
+    ∙ ap (λ (xs : List (List ℕ)). f.name ∷ xs) (names_kept (earlier ++ f ∷ []) fs later)
 
 -- ---- and each column is found
 

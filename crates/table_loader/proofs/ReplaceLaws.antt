@@ -15,14 +15,17 @@ use Rattle.dbf_fields.specs.Day.{IsDay}
 use Rattle.dbf_fields.specs.Digits.{digits_after, last_digits}
 use Rattle.dbf_fields.specs.Field.{has_width}
 use Rattle.dbf_fields.specs.Logical.{truth_text}
-use Rattle.dbf_fields.specs.Number.{number}
+use Rattle.dbf_fields.specs.Number.{number, trimmed}
 use Rattle.dbf_fields.specs.NumberText.{number_cell}
 use Rattle.dbf_fields.specs.Padding.{padded}
 use Rattle.dbf_fields.proofs.DateLaws.{day_tests, text_fills}
 use Rattle.dbf_fields.proofs.Digits.{digit_at, digit_more, digits_take}
+use Rattle.table_loader.specs.declared.form.CsvForm.{CsvForm}
 use Rattle.table_loader.specs.declared.fault.ValueFault.{ValueFault}
-use Rattle.table_loader.specs.Values.{cell_or_fault, date_value, kept_number, number_value, text_value, truth_cell, truth_said, truth_value, value_of}
-use Rattle.table_loader.proofs.ValuesBack.{blank_or}
+use Rattle.table_loader.specs.Values.{cell_or_fault, date_cell, date_value, kept_number, number_value, said_of, text_value, truth_cell, truth_said, truth_value, value_of}
+use Rattle.table_loader.specs.Dates.{date_digits}
+use Rattle.table_text.specs.Shown.{trimmed_end}
+use Rattle.table_loader.proofs.ValuesBack.{blank_or, number_again}
 
 -- ---- what is said of a text that is there
 
@@ -30,26 +33,26 @@ text_there : (width : ℕ) (text : List ℕ) (said : Result (List ℕ) ValueFaul
 text_there width [] said there = absurd (there refl)
 text_there width (b ∷ bs) said there = rw (ne_eqb (length (b ∷ bs)) 0 (λ e. omega (arith, e))) refl
 
-value_text : (cut : Bool) (f : Field) (text : List ℕ) → f.kind ≡ CHARACTER → value_of cut f text ≡ blank_or f.width text (text_value cut f.width text)
+value_text : (form : CsvForm) (f : Field) (text : List ℕ) → f.kind ≡ CHARACTER → value_of form f text ≡ blank_or f.width text (text_value form.cut f.width text)
 unfolding value_of
-value_text cut f text kind = rw kind refl
+value_text form f text kind = rw kind refl
 
-value_number : (cut : Bool) (f : Field) (text : List ℕ) → f.kind ≡ NUMBER → value_of cut f text ≡ blank_or f.width text (number_value f text)
+value_number : (form : CsvForm) (f : Field) (text : List ℕ) → f.kind ≡ NUMBER → value_of form f text ≡ blank_or f.width (said_of f text) (number_value f (said_of f text))
 unfolding value_of number_value
-value_number cut f text kind = rw kind refl
+value_number form f text kind = rw kind refl
 
-value_truth : (cut : Bool) (f : Field) (text : List ℕ) → f.kind ≡ LOGICAL → value_of cut f text ≡ blank_or f.width text (truth_value f.width text)
+value_truth : (form : CsvForm) (f : Field) (text : List ℕ) → f.kind ≡ LOGICAL → value_of form f text ≡ blank_or f.width (said_of f text) (truth_value f.width (said_of f text))
 unfolding value_of
-value_truth cut f text kind = rw kind refl
+value_truth form f text kind = rw kind refl
 
-value_date : (cut : Bool) (f : Field) (text : List ℕ) → f.kind ≡ DATE → value_of cut f text ≡ blank_or f.width text (date_value text)
+value_date : (form : CsvForm) (f : Field) (text : List ℕ) → f.kind ≡ DATE → value_of form f text ≡ blank_or f.width (said_of f text) (date_value form.dates (said_of f text))
 unfolding value_of
-value_date cut f text kind = rw kind refl
+value_date form f text kind = rw kind refl
 
 -- ---- texts
 
 text_said : (cut : Bool) (width : ℕ) (text cell : List ℕ) → text_value cut width text ≡ Ok cell → padded width text ≡ cell
-text_said cut width text cell said = elim (cases_Bool (not cut && nat_lt width (length text))) [
+text_said cut width text cell said = elim (cases_Bool (not cut && nat_lt width (length (trimmed_end text)))) [
   | inl wide ↦ absurd (cc (rw wide at said))
   | inr fits ↦ cc (rw fits at said)
 ]
@@ -64,9 +67,9 @@ text_or_blank cut width [] cell said = blank_said width cell (text_value cut wid
 text_or_blank cut width (b ∷ bs) cell said =
     text_said cut width (b ∷ bs) cell (sym (text_there width (b ∷ bs) (text_value cut width (b ∷ bs)) (λ e. cc)) ∙ said)
 
-pub text_kept : (cut : Bool) (f : Field) (text cell : List ℕ) → f.kind ≡ CHARACTER → value_of cut f text ≡ Ok cell → stored f (Text text) ≡ Ok cell
-text_kept cut f text cell kind said =
-    let same = text_or_blank cut f.width text cell (sym (value_text cut f text kind) ∙ said) in
+pub text_kept : (form : CsvForm) (f : Field) (text cell : List ℕ) → f.kind ≡ CHARACTER → value_of form f text ≡ Ok cell → stored f (Text text) ≡ Ok cell
+text_kept form f text cell kind said =
+    let same = text_or_blank form.cut f.width text cell (sym (value_text form f text kind) ∙ said) in
     rw kind (ap Ok same)
 
 -- ---- numbers
@@ -94,11 +97,17 @@ number_said f text cell said = elim (cases_Bool (nat_lt MAX_NUMBER_WIDTH (length
 stored_number : (f : Field) (n : ℤ) (cell : List ℕ) → f.kind ≡ NUMBER → number_cell f.width f.decimals n f.decimals ≡ Some cell → stored f (Number n f.decimals) ≡ Ok cell
 stored_number f n cell kind kept = rw (kind, kept) refl
 
-pub number_kept : (cut : Bool) (f : Field) (text cell : List ℕ) → f.kind ≡ NUMBER → text ≢ [] → value_of cut f text ≡ Ok cell
+said_number : (f : Field) (text : List ℕ) → f.kind ≡ NUMBER → said_of f text ≡ trimmed text
+said_number f text kind = rw kind refl
+
+pub number_kept : (form : CsvForm) (f : Field) (text cell : List ℕ) → f.kind ≡ NUMBER → said_of f text ≢ [] → value_of form f text ≡ Ok cell
     → (n : ℤ) × (number text f.decimals ≡ Some n) × (stored f (Number n f.decimals) ≡ Ok cell)
-number_kept cut f text cell kind there said =
-    let (n, is, kept) = number_said f text cell (sym (text_there f.width text (number_value f text) there) ∙ (sym (value_number cut f text kind) ∙ said)) in
-    (n, is, stored_number f n cell kind kept)
+number_kept form f text cell kind there said =
+    let trimmed_so = said_of f text in
+    let (n, is, kept) = number_said f trimmed_so cell (sym (text_there f.width trimmed_so (number_value f trimmed_so) there) ∙ (sym (value_number form f text kind) ∙ said)) in
+    let same : number text f.decimals ≡ number trimmed_so f.decimals =
+    sym (number_again text f.decimals) ∙ ap (λ (t : List ℕ). number t f.decimals) (sym (said_number f text kind)) in
+    (n, same ∙ is, stored_number f n cell kind kept)
 
 -- ---- logical values
 
@@ -109,10 +118,11 @@ truth_there width (Some truth) cell said = (truth, refl, cc)
 stored_truth : (f : Field) (truth : Bool) (cell : List ℕ) → f.kind ≡ LOGICAL → padded f.width (truth_text truth) ≡ cell → stored f (Truth truth) ≡ Ok cell
 stored_truth f truth cell kind same = rw kind (ap Ok same)
 
-pub truth_kept : (cut : Bool) (f : Field) (text cell : List ℕ) → f.kind ≡ LOGICAL → text ≢ [] → value_of cut f text ≡ Ok cell
-    → (truth : Bool) × (truth_said text ≡ Some truth) × (stored f (Truth truth) ≡ Ok cell)
-truth_kept cut f text cell kind there said =
-    let (truth, is, same) = truth_there f.width (truth_said text) cell (sym (text_there f.width text (truth_value f.width text) there) ∙ (sym (value_truth cut f text kind) ∙ said)) in
+pub truth_kept : (form : CsvForm) (f : Field) (text cell : List ℕ) → f.kind ≡ LOGICAL → said_of f text ≢ [] → value_of form f text ≡ Ok cell
+    → (truth : Bool) × (truth_said (said_of f text) ≡ Some truth) × (stored f (Truth truth) ≡ Ok cell)
+truth_kept form f text cell kind there said =
+    let word = said_of f text in
+    let (truth, is, same) = truth_there f.width (truth_said word) cell (sym (text_there f.width word (truth_value f.width word) there) ∙ (sym (value_truth form f text kind) ∙ said)) in
     (truth, is, stored_truth f truth cell kind same)
 
 -- ---- dates
@@ -169,15 +179,19 @@ day_of_text text real = record {
   real = real_day text real;
 }
 
-pub date_kept : (cut : Bool) (f : Field) (text cell : List ℕ) → f.kind ≡ DATE → has_width f ≡ true → text ≢ [] → value_of cut f text ≡ Ok cell
-    → (day : Day) × SaysDay text day × (stored f (Date day) ≡ Ok cell)
-date_kept cut f text cell kind wide there said =
-    let here = sym (text_there f.width text (date_value text) there) ∙ (sym (value_date cut f text kind) ∙ said) in
-    elim (cases_Bool (is_date text)) [
-      | inl real ↦
-          let same : text ≡ cell = cc (rw real at here) in
-          let day = day_of_text text real in
-          let fills = text_fills f (year_in text) (month_in text) (day_in text) kind wide ∙ date_again text real ∙ same in
-          (day, record { real = real; year = refl; month = refl; day_of_month = refl }, rw kind (ap Ok fills))
-      | inr none ↦ absurd (cc (rw none at here))
-    ]
+date_there : (read : Option (List ℕ)) (cell : List ℕ) → date_cell read ≡ Ok cell → (read ≡ Some cell) × (is_date cell ≡ true)
+date_there None cell said = absurd cc
+date_there (Some digits) cell said = elim (cases_Bool (is_date digits)) [
+  | inl real ↦ let same : digits ≡ cell = cc (rw real at said) in (ap Some same, ap is_date (sym same) ∙ real)
+  | inr none ↦ absurd (cc (rw none at said))
+]
+
+pub date_kept : (form : CsvForm) (f : Field) (text cell : List ℕ) → f.kind ≡ DATE → has_width f ≡ true → said_of f text ≢ [] → value_of form f text ≡ Ok cell
+    → (day : Day) × (digits : List ℕ) × (date_digits form.dates (said_of f text) ≡ Some digits) × SaysDay digits day × (stored f (Date day) ≡ Ok cell)
+date_kept form f text cell kind wide there said =
+    let date = said_of f text in
+    let here : date_value form.dates date ≡ Ok cell = sym (text_there f.width date (date_value form.dates date) there) ∙ (sym (value_date form f text kind) ∙ said) in
+    let (is, real) = date_there (date_digits form.dates date) cell here in
+    let day = day_of_text cell real in
+    let fills = text_fills f (year_in cell) (month_in cell) (day_in cell) kind wide ∙ date_again cell real in
+    (day, cell, is, record { real = real; year = refl; month = refl; day_of_month = refl }, rw kind (ap Ok fills))

@@ -2,6 +2,7 @@
 use Rattle.std.specs.Prelude.{Result, Ok, Err}
 use Rattle.std.proofs.lemmas.Bool.{eq-eqb, lt-ltb}
 use Rattle.std.proofs.lemmas.List.{drop_more}
+use Rattle.table_loader.specs.declared.form.CsvForm.{CsvForm}
 use Rattle.table_loader.specs.declared.fault.CsvFault.{CsvFault}
 use Rattle.table_loader.specs.declared.fault.CsvFault.TheVariants.{Value}
 use Rattle.table_loader.specs.declared.fault.ValueFault.{ValueFault}
@@ -56,50 +57,50 @@ wide_field fields index f schema inside = at_index (λ f. has_width f ≡ true) 
 -- ---- the fields of a line, one after the other
 
 -- a value that is put into the record leaves the later fields
-pub field_filled : (cut : Bool) (columns : Columns) (line index : ℕ) (cells : List (List ℕ)) (fields : List Field) (f : Field) (row : Row) (cell : List ℕ)
-    → index < length fields → get_or fields index f ≡ f → value_of cut f (text_for columns cells index) ≡ Ok cell
-    → filled cut columns line cells (index + 1) (drop (index + 1) fields) (row_with_cell row index cell) ≡ filled cut columns line cells index (drop index fields) row
-field_filled cut columns line index cells fields f row cell lt is said = rw (drop_more fields index f lt, is, said) refl
+pub field_filled : (form : CsvForm) (columns : Columns) (line index : ℕ) (cells : List (List ℕ)) (fields : List Field) (f : Field) (row : Row) (cell : List ℕ)
+    → index < length fields → get_or fields index f ≡ f → value_of form f (text_for columns cells index) ≡ Ok cell
+    → filled form columns line cells (index + 1) (drop (index + 1) fields) (row_with_cell row index cell) ≡ filled form columns line cells index (drop index fields) row
+field_filled form columns line index cells fields f row cell lt is said = rw (drop_more fields index f lt, is, said) refl
 
 -- and one that is not put is the fault
-field_fails : (cut : Bool) (columns : Columns) (line index : ℕ) (cells : List (List ℕ)) (fields : List Field) (f : Field) (row : Row) (why : ValueFault)
-    → index < length fields → get_or fields index f ≡ f → value_of cut f (text_for columns cells index) ≡ Err why
-    → filled cut columns line cells index (drop index fields) row ≡ Err (Value line index why)
-field_fails cut columns line index cells fields f row why lt is said = rw (drop_more fields index f lt, is, said) refl
+field_fails : (form : CsvForm) (columns : Columns) (line index : ℕ) (cells : List (List ℕ)) (fields : List Field) (f : Field) (row : Row) (why : ValueFault)
+    → index < length fields → get_or fields index f ≡ f → value_of form f (text_for columns cells index) ≡ Err why
+    → filled form columns line cells index (drop index fields) row ≡ Err (Value line index why)
+field_fails form columns line index cells fields f row why lt is said = rw (drop_more fields index f lt, is, said) refl
 
-pub not_filled : (cut : Bool) (columns : Columns) (line index : ℕ) (cells : List (List ℕ)) (fields : List Field) (f : Field) (row : Row) (whole : Result Row CsvFault)
-    (fault : PutFault) → index < length fields → get_or fields index f ≡ f → filled cut columns line cells index (drop index fields) row ≡ whole
-    → IsPutFault fault (value_of cut f (text_for columns cells index)) → IsCsvFault (fault_told line index fault) whole
-not_filled cut columns line index cells fields f row whole (putting.Value why) lt is rest said =
-    inr (sym rest ∙ field_fails cut columns line index cells fields f row why lt is said)
-not_filled cut columns line index cells fields f row whole putting.NoMemory lt is rest said = inl refl
+pub not_filled : (form : CsvForm) (columns : Columns) (line index : ℕ) (cells : List (List ℕ)) (fields : List Field) (f : Field) (row : Row) (whole : Result Row CsvFault)
+    (fault : PutFault) → index < length fields → get_or fields index f ≡ f → filled form columns line cells index (drop index fields) row ≡ whole
+    → IsPutFault fault (value_of form f (text_for columns cells index)) → IsCsvFault (fault_told line index fault) whole
+not_filled form columns line index cells fields f row whole (putting.Value why) lt is rest said =
+    inr (sym rest ∙ field_fails form columns line index cells fields f row why lt is said)
+not_filled form columns line index cells fields f row whole putting.NoMemory lt is rest said = inl refl
 
 -- ---- the record of a line
 
-pub line_added : (cut : Bool) (columns : Columns) (line : ℕ) (table new : Table) (cells : List (List ℕ)) (row : Row) (deleted : Bool)
-    → length cells ≡ columns.count → length table.rows < MAX_RECORDS → filled cut columns line cells 0 table.schema (blank_row table.schema) ≡ Ok row
+pub line_added : (form : CsvForm) (columns : Columns) (line : ℕ) (table new : Table) (cells : List (List ℕ)) (row : Row) (deleted : Bool)
+    → length cells ≡ columns.count → length table.rows < MAX_RECORDS → filled form columns line cells 0 table.schema (blank_row table.schema) ≡ Ok row
     → mark_said line (text_in_column cells columns.of_marks) ≡ Ok deleted → new ≡ with_row table (row_marked row deleted)
-    → with_line cut columns line table cells ≡ Ok new
-line_added cut columns line table new cells row deleted many room said mark is =
+    → with_line form columns line table cells ≡ Ok new
+line_added form columns line table new cells row deleted many room said mark is =
     rw (eq-eqb (length cells) columns.count many, lt-ltb (length table.rows) MAX_RECORDS room, said, mark, is) refl
 
-pub line_not_filled : (cut : Bool) (columns : Columns) (line : ℕ) (table : Table) (cells : List (List ℕ)) (fault : CsvFault)
-    → length cells ≡ columns.count → length table.rows < MAX_RECORDS → IsCsvFault fault (filled cut columns line cells 0 table.schema (blank_row table.schema))
-    → IsCsvFault fault (with_line cut columns line table cells)
-line_not_filled cut columns line table cells fault many room (inl none) = inl none
-line_not_filled cut columns line table cells fault many room (inr said) =
+pub line_not_filled : (form : CsvForm) (columns : Columns) (line : ℕ) (table : Table) (cells : List (List ℕ)) (fault : CsvFault)
+    → length cells ≡ columns.count → length table.rows < MAX_RECORDS → IsCsvFault fault (filled form columns line cells 0 table.schema (blank_row table.schema))
+    → IsCsvFault fault (with_line form columns line table cells)
+line_not_filled form columns line table cells fault many room (inl none) = inl none
+line_not_filled form columns line table cells fault many room (inr said) =
     inr (rw (eq-eqb (length cells) columns.count many, lt-ltb (length table.rows) MAX_RECORDS room, said) refl)
 
-pub line_not_marked : (cut : Bool) (columns : Columns) (line : ℕ) (table : Table) (cells : List (List ℕ)) (row : Row) (fault : CsvFault)
-    → length cells ≡ columns.count → length table.rows < MAX_RECORDS → filled cut columns line cells 0 table.schema (blank_row table.schema) ≡ Ok row
-    → mark_said line (text_in_column cells columns.of_marks) ≡ Err fault → with_line cut columns line table cells ≡ Err fault
-line_not_marked cut columns line table cells row fault many room said mark =
+pub line_not_marked : (form : CsvForm) (columns : Columns) (line : ℕ) (table : Table) (cells : List (List ℕ)) (row : Row) (fault : CsvFault)
+    → length cells ≡ columns.count → length table.rows < MAX_RECORDS → filled form columns line cells 0 table.schema (blank_row table.schema) ≡ Ok row
+    → mark_said line (text_in_column cells columns.of_marks) ≡ Err fault → with_line form columns line table cells ≡ Err fault
+line_not_marked form columns line table cells row fault many room said mark =
     rw (eq-eqb (length cells) columns.count many, lt-ltb (length table.rows) MAX_RECORDS room, said, mark) refl
 
 -- a line that is taken leaves the later ones
-pub more_lines : (cut : Bool) (columns : Columns) (line here next : ℕ) (table new : Table) (cells : List (List ℕ)) (lines more : List (List (List ℕ)))
-    → with_line cut columns line table cells ≡ Ok new → lines ≡ cells ∷ more → line ≡ here → next ≡ here + 1
-    → with_lines cut columns next new more ≡ with_lines cut columns here table lines
-more_lines cut columns line here next table new cells lines more said is same one =
-    let step : with_line cut columns here table cells ≡ Ok new = ap (λ (n : ℕ). with_line cut columns n table cells) (sym same) ∙ said in
+pub more_lines : (form : CsvForm) (columns : Columns) (line here next : ℕ) (table new : Table) (cells : List (List ℕ)) (lines more : List (List (List ℕ)))
+    → with_line form columns line table cells ≡ Ok new → lines ≡ cells ∷ more → line ≡ here → next ≡ here + 1
+    → with_lines form columns next new more ≡ with_lines form columns here table lines
+more_lines form columns line here next table new cells lines more said is same one =
+    let step : with_line form columns here table cells ≡ Ok new = ap (λ (n : ℕ). with_line form columns n table cells) (sym same) ∙ said in
     rw (is, one, step) refl

@@ -12,12 +12,15 @@ use Rattle.dbf_image.specs.declared.format.TheConstants.{MAX_RECORDS}
 use Rattle.dbf_image.specs.Table.{IsTable, Row, Table, AreCells, blank_cell, blank_row, empty_table, row_at}
 use Rattle.table_text.specs.Csv.{csv_heading, csv_line, csv_value}
 use Rattle.table_text.specs.Selection.{is_selected, selected}
-use Rattle.table_loader.specs.ComingBack.{ComesBack, HaveMeaning, all_records, whole_csv}
-use Rattle.table_loader.specs.CsvText.{csv_lines}
+use Rattle.table_loader.specs.declared.form.CsvForm.{CsvForm}
+use Rattle.table_loader.specs.declared.form.DateForm.TheVariants.{Digits}
+use Rattle.table_loader.specs.declared.form.Separator.{Separator}
+use Rattle.table_loader.specs.ComingBack.{ComesBack, HaveMeaning, IsPrintedForm, all_records, whole_csv}
+use Rattle.table_loader.specs.CsvText.{csv_lines, separator_byte}
 use Rattle.table_loader.specs.Headings.{Columns, column_of, columns_by, mark_name, text_for, text_in_column}
 use Rattle.table_loader.specs.Loading.{csv_loaded, filled, loaded, mark_said, row_of_line, with_line, with_lines}
 use Rattle.table_loader.specs.Values.{value_of}
-use Rattle.table_loader.proofs.NamesBack.{AreGood, field_column, heading_accepted, mark_column, names_of, schema_good}
+use Rattle.table_loader.proofs.NamesBack.{AreGood, field_column, heading_accepted, mark_column, names_kept, names_of, schema_good}
 use Rattle.table_loader.proofs.TextBack.{line_texts, mark_text, printed_lines, texts_from}
 use Rattle.table_loader.proofs.ValuesBack.{value_back}
 
@@ -73,19 +76,19 @@ all_say row_cells last schema earlier (f ∷ fs) done (c ∷ cs) is cells long (
 abbrev kept_row : List (List ℕ) → Row
 kept_row cells = record { deleted = false; cells = cells }
 
-rest_filled : (cut : Bool) (columns : Columns) (line : ℕ) (texts : List (List ℕ)) (earlier fs : List Field) (done rest : List (List ℕ)) (index : ℕ)
-    → length done ≡ index → AreGood earlier fs → AreCells fs rest → HaveMeaning fs rest → Says columns texts index fs rest
-    → filled cut columns line texts index fs (kept_row (done ++ map blank_cell fs)) ≡ Ok (kept_row (done ++ rest))
-rest_filled cut columns line texts earlier [] done [] index long good are have says = refl
-rest_filled cut columns line texts earlier [] done (c ∷ cs) index long good are have says = absurd are
-rest_filled cut columns line texts earlier (f ∷ fs) done [] index long good are have says = absurd are
-rest_filled cut columns line texts earlier (f ∷ fs) done (c ∷ cs) index long (here, later) (is, are) (means, mean) (said, say) =
-    let value : value_of cut f (text_for columns texts index) ≡ Ok c = ap (value_of cut f) said ∙ value_back cut f c here.kind here.wide is means in
+rest_filled : (form : CsvForm) (columns : Columns) (line : ℕ) (texts : List (List ℕ)) (earlier fs : List Field) (done rest : List (List ℕ)) (index : ℕ)
+    → form.dates ≡ Digits → length done ≡ index → AreGood earlier fs → AreCells fs rest → HaveMeaning fs rest → Says columns texts index fs rest
+    → filled form columns line texts index fs (kept_row (done ++ map blank_cell fs)) ≡ Ok (kept_row (done ++ rest))
+rest_filled form columns line texts earlier [] done [] index plain long good are have says = refl
+rest_filled form columns line texts earlier [] done (c ∷ cs) index plain long good are have says = absurd are
+rest_filled form columns line texts earlier (f ∷ fs) done [] index plain long good are have says = absurd are
+rest_filled form columns line texts earlier (f ∷ fs) done (c ∷ cs) index plain long (here, later) (is, are) (means, mean) (said, say) =
+    let value : value_of form f (text_for columns texts index) ≡ Ok c = ap (value_of form f) said ∙ value_back form f c plain here.kind here.wide is means in
     let put = ap (λ (n : ℕ). kept_row (set (done ++ blank_cell f ∷ map blank_cell fs) n c)) (sym long) ∙ ap kept_row (set-append_seam done (blank_cell f) (map blank_cell fs) c)
     ∙ ap kept_row (sym (append_assoc done (c ∷ []) (map blank_cell fs))) in
     let next : length (done ++ c ∷ []) ≡ index + 1 = length-append done (c ∷ []) ∙ ap (λ (n : ℕ). n + 1) long in
-    let more = rest_filled cut columns line texts (earlier ++ f ∷ []) fs (done ++ c ∷ []) cs (index + 1) next later are mean say in
-    rw value (ap (filled cut columns line texts (index + 1) fs) put ∙ more ∙ ap (λ (x : List (List ℕ)). Ok (kept_row x)) (append_assoc done (c ∷ []) cs))
+    let more = rest_filled form columns line texts (earlier ++ f ∷ []) fs (done ++ c ∷ []) cs (index + 1) plain next later are mean say in
+    rw value (ap (filled form columns line texts (index + 1) fs) put ∙ more ∙ ap (λ (x : List (List ℕ)). Ok (kept_row x)) (append_assoc done (c ∷ []) cs))
 
 mark_again : (line : ℕ) (deleted : Bool) → mark_said line (mark_text deleted) ≡ Ok deleted
 mark_again line true = refl
@@ -104,23 +107,23 @@ last_text xs last n is = ap (λ (k : ℕ). get_or (xs ++ last ∷ []) k []) (sym
 abbrev texts_of_row : List Field → Row → List (List ℕ)
 texts_of_row schema row = texts_from (λ index f. csv_value f.kind (get_or row.cells index [])) 0 schema ++ mark_text row.deleted ∷ []
 
-row_again : (cut : Bool) (schema : List Field) (line : ℕ) (row : Row) → AreGood [] schema → AreCells schema row.cells → HaveMeaning schema row.cells
-    → row_of_line cut (columns_by schema (heading_of schema)) line (texts_of_row schema row) schema ≡ Ok row
-row_again cut schema line row good are mean =
+row_again : (form : CsvForm) (schema : List Field) (line : ℕ) (row : Row) → form.dates ≡ Digits → AreGood [] schema → AreCells schema row.cells → HaveMeaning schema row.cells
+    → row_of_line form (columns_by schema (heading_of schema)) line (texts_of_row schema row) schema ≡ Ok row
+row_again form schema line row plain good are mean =
     let columns = columns_by schema (heading_of schema) in
     let texts = texts_of_row schema row in
     let says = all_say row.cells (mark_text row.deleted ∷ []) schema [] schema [] row.cells refl refl refl good in
-    let cells = rest_filled cut columns line texts [] schema [] row.cells 0 refl good are mean says in
+    let cells = rest_filled form columns line texts [] schema [] row.cells 0 plain refl good are mean says in
     let column : text_in_column texts columns.of_marks ≡ mark_text row.deleted =
     ap (text_in_column texts) (mark_column schema good) ∙ last_text (texts_from (λ index f. csv_value f.kind (get_or row.cells index [])) 0 schema) (mark_text row.deleted) (length schema) (length_texts _ 0 schema) in
     let mark : mark_said line (text_in_column texts columns.of_marks) ≡ Ok row.deleted = ap (mark_said line) column ∙ mark_again line row.deleted in
     rw (cells, mark) refl
 
-line_again : (cut : Bool) (schema : List Field) (line : ℕ) (rows : List Row) (row : Row) → AreGood [] schema → AreCells schema row.cells → HaveMeaning schema row.cells
+line_again : (form : CsvForm) (schema : List Field) (line : ℕ) (rows : List Row) (row : Row) → form.dates ≡ Digits → AreGood [] schema → AreCells schema row.cells → HaveMeaning schema row.cells
     → length rows < MAX_RECORDS
-    → with_line cut (columns_by schema (heading_of schema)) line (record { schema = schema; rows = rows }) (texts_of_row schema row)
+    → with_line form (columns_by schema (heading_of schema)) line (record { schema = schema; rows = rows }) (texts_of_row schema row)
     ≡ Ok (record { schema = schema; rows = rows ++ row ∷ [] })
-line_again cut schema line rows row good are mean room =
+line_again form schema line rows row plain good are mean room =
     let many : length (texts_of_row schema row) ≡ length (heading_of schema) =
     omega (
       arith,
@@ -129,7 +132,7 @@ line_again cut schema line rows row good are mean room =
       length-append (names_of schema) (mark_name ∷ []),
       length-map schema (λ (f : Field). f.name),
     ) in
-    rw (eq-eqb (length (texts_of_row schema row)) (length (heading_of schema)) many, lt-ltb (length rows) MAX_RECORDS room, row_again cut schema line row good are mean) refl
+    rw (eq-eqb (length (texts_of_row schema row)) (length (heading_of schema)) many, lt-ltb (length rows) MAX_RECORDS room, row_again form schema line row plain good are mean) refl
 
 -- ---- the records, one after the other
 
@@ -141,12 +144,12 @@ at_row P (r ∷ rs) (suc index) other all inside = at_row P rs index other all.1
 abbrev table_to : Table → ℕ → Table
 table_to table k = record { schema = table.schema; rows = take k table.rows }
 
-records_again : (cut : Bool) (table : Table) (line k m : ℕ) → IsTable table → ComesBack table → AreGood [] table.schema → k + m ≡ length table.rows
-    → with_lines cut (columns_by table.schema (heading_of table.schema)) line (table_to table k) (map (line_texts table) (range_with_len (k + 1) m)) ≡ Ok table
-records_again cut table line k zero is comes good all =
+records_again : (form : CsvForm) (table : Table) (line k m : ℕ) → form.dates ≡ Digits → IsTable table → ComesBack table → AreGood [] table.schema → k + m ≡ length table.rows
+    → with_lines form (columns_by table.schema (heading_of table.schema)) line (table_to table k) (map (line_texts table) (range_with_len (k + 1) m)) ≡ Ok table
+records_again form table line k zero plain is comes good all =
     let whole : take k table.rows ≡ table.rows = take_all k table.rows (omega arith) in
     ap (λ (rows : List Row). Ok (record { schema = table.schema; rows = rows })) whole
-records_again cut table line k (suc m) is comes good all =
+records_again form table line k (suc m) plain is comes good all =
     let inside : k < length table.rows = omega arith in
     let first : k + 1 - 1 ≡ k = omega arith in
     let blank = blank_row table.schema in
@@ -156,10 +159,10 @@ records_again cut table line k (suc m) is comes good all =
     let mean = at_row (λ r. HaveMeaning table.schema r.cells) table.rows k blank comes inside in
     let short : length (take k table.rows) ≡ k = length-take-le k table.rows (omega arith) in
     let texts : line_texts table (k + 1) ≡ texts_of_row table.schema row = ap (texts_of_row table.schema) here in
-    let step = ap (with_line cut (columns_by table.schema (heading_of table.schema)) line (table_to table k)) texts
-    ∙ line_again cut table.schema line (take k table.rows) row good are mean (omega (arith, short, is.count_bounded)) in
+    let step = ap (with_line form (columns_by table.schema (heading_of table.schema)) line (table_to table k)) texts
+    ∙ line_again form table.schema line (take k table.rows) row plain good are mean (omega (arith, short, is.count_bounded)) in
     let more : take (k + 1) table.rows ≡ take k table.rows ++ row ∷ [] = take_more table.rows k blank inside in
-    let next = records_again cut table (line + 1) (k + 1) m is comes good (omega arith) in
+    let next = records_again form table (line + 1) (k + 1) m plain is comes good (omega arith) in
     rw (step, ← more) next
 
 -- ---- all records are shown
@@ -185,12 +188,13 @@ schema_some [] schema = absurd cc
 schema_some (f ∷ fs) schema = omega arith
 
 -- what is printed of a table whose cells mean something is this table again
-pub printed_again : (cut : Bool) (table : Table) → IsTable table → ComesBack table → csv_loaded cut (empty_table table.schema) (whole_csv table) ≡ Ok table
-printed_again cut table is comes =
+pub printed_again : (form : CsvForm) (table : Table) → IsPrintedForm form → IsTable table → ComesBack table → csv_loaded form (empty_table table.schema) (whole_csv table) ≡ Ok table
+printed_again form table printed is comes =
     let good = schema_good table.schema is.fields in
     let (f, fs, split) = some_field table.schema good (schema_some table.schema is.fields) in
     let shown : whole_csv table ≡ csv_heading true table ++ flat_map (csv_line true table) (range_with_len 1 (length table.rows)) =
     ap (λ (n : List ℕ). csv_heading true table ++ flat_map (csv_line true table) n) (all_selected table is.count_bounded) in
-    let lines = ap csv_lines shown ∙ printed_lines table f fs (range_with_len 1 (length table.rows)) split (subst (λ (s : List Field). AreGood [] s) split good) in
-    ap (loaded cut (empty_table table.schema)) lines
-    ∙ rw (heading_accepted table.schema good) (records_again cut table 2 0 (length table.rows) is comes good (omega arith))
+    let lines = ap (csv_lines 44) shown ∙ printed_lines table f fs (range_with_len 1 (length table.rows)) split (subst (λ (s : List Field). AreGood [] s) split good) in
+    ap (λ (by : Separator). loaded form (empty_table table.schema) (csv_lines (separator_byte by) (whole_csv table))) printed.separator
+    ∙ ap (loaded form (empty_table table.schema)) lines
+    ∙ rw (names_kept [] table.schema good, heading_accepted table.schema good) (records_again form table 2 0 (length table.rows) printed.dates is comes good (omega arith))

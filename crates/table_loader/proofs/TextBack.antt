@@ -166,30 +166,30 @@ end_passed : (n : ℕ) (tail : List ℕ) → records_from default_config (suc n)
 unfolding records_from next_record
 end_passed n tail = refl
 
-more_fuel : (tail : List ℕ) → lines_from st.AfterCr (Some (10 ∷ tail)) ≡ records_from default_config (length tail + 1 + 1) st.StartRecord tail
+more_fuel : (tail : List ℕ) → lines_from 44 st.AfterCr (Some (10 ∷ tail)) ≡ records_from default_config (length tail + 1 + 1) st.StartRecord tail
 more_fuel tail =
     let left : length (10 ∷ tail) + 1 ≡ suc (length tail + 1) = omega arith in
     let right : length tail + 1 + 1 ≡ suc (length tail + 1) = omega arith in
     ap (λ (n : ℕ). records_from default_config n st.AfterCr (10 ∷ tail)) left ∙ end_passed (length tail + 1) tail
     ∙ ap (λ (n : ℕ). records_from default_config n st.StartRecord tail) (sym right)
 
-after_line : (tail : List ℕ) → lines_from st.AfterCr (Some (10 ∷ tail)) ≡ lines_from st.StartRecord (Some tail)
-after_line tail = more_fuel tail ∙ same_lines (length tail + 1 + 1) (length tail + 1) st.StartRecord tail refl (omega arith) (omega arith)
+after_line : (tail : List ℕ) → lines_from 44 st.AfterCr (Some (10 ∷ tail)) ≡ lines_from 44 st.StartRecord (Some tail)
+after_line tail = more_fuel tail ∙ same_lines 44 (length tail + 1 + 1) (length tail + 1) st.StartRecord tail refl (omega arith) (omega arith)
 
 then_line : (text : ℕ → Field → List ℕ) (f : Field) (last tail : List ℕ) (more : List (List ℕ)) (line : List ℕ)
     → line ≡ (field_text default_writer (text 0 f) ++ fields_text default_writer (more ++ last ∷ [])) ++ line_end tail
-    → lines_from st.StartRecord (Some line) ≡ (text 0 f ∷ (more ++ last ∷ [])) ∷ lines_from st.StartRecord (Some tail)
+    → lines_from 44 st.StartRecord (Some line) ≡ (text 0 f ∷ (more ++ last ∷ [])) ∷ lines_from 44 st.StartRecord (Some tail)
 then_line text f last tail [] line is =
-    ap (λ (t : List ℕ). lines_from st.StartRecord (Some t)) is ∙ (line_taken st.StartRecord _ _ refl (line_read (text 0 f) last [] tail)).0
+    ap (λ (t : List ℕ). lines_from 44 st.StartRecord (Some t)) is ∙ (line_taken 44 st.StartRecord _ _ refl (line_read (text 0 f) last [] tail)).0
     ∙ ap (λ (t : List (List (List ℕ))). (text 0 f ∷ last ∷ []) ∷ t) (after_line tail)
 then_line text f last tail (m ∷ ms) line is =
-    ap (λ (t : List ℕ). lines_from st.StartRecord (Some t)) is ∙ (line_taken st.StartRecord _ _ refl (line_read (text 0 f) m (ms ++ last ∷ []) tail)).0
+    ap (λ (t : List ℕ). lines_from 44 st.StartRecord (Some t)) is ∙ (line_taken 44 st.StartRecord _ _ refl (line_read (text 0 f) m (ms ++ last ∷ []) tail)).0
     ∙ ap (λ (t : List (List (List ℕ))). (text 0 f ∷ m ∷ (ms ++ last ∷ [])) ∷ t) (after_line tail)
 
 -- a line that is printed of texts is read as these, and then what is left
 pub line_then : (text : ℕ → Field → List ℕ) (f : Field) (fs : List Field) (last tail mark : List ℕ) → mark ≡ fields_text default_writer (last ∷ [])
-    → lines_from st.StartRecord (Some ((csv_fields (printed text) 0 (f ∷ fs) ++ (mark ++ line_end [])) ++ tail))
-    ≡ (texts_from text 0 (f ∷ fs) ++ last ∷ []) ∷ lines_from st.StartRecord (Some tail)
+    → lines_from 44 st.StartRecord (Some ((csv_fields (printed text) 0 (f ∷ fs) ++ (mark ++ line_end [])) ++ tail))
+    ≡ (texts_from text 0 (f ∷ fs) ++ last ∷ []) ∷ lines_from 44 st.StartRecord (Some tail)
 line_then text f fs last tail mark is = then_line text f last tail (texts_from text 1 fs) _ (printed_line text f fs last tail mark is)
 
 -- ---- the lines of records
@@ -211,15 +211,15 @@ mark_printed true = refl
 mark_printed false = refl
 
 lines_of_records : (f : Field) (fs : List Field) (table : Table) → table.schema ≡ f ∷ fs → (numbers : List ℕ)
-    → lines_from st.StartRecord (Some (flat_map (csv_line true table) numbers)) ≡ map (line_texts table) numbers
+    → lines_from 44 st.StartRecord (Some (flat_map (csv_line true table) numbers)) ≡ map (line_texts table) numbers
 unfolding records_from next_record
 lines_of_records f fs table is [] = refl
 lines_of_records f fs table is (n ∷ ns) =
     let tail = flat_map (csv_line true table) ns in
     let deleted = (row_at table n).deleted in
     let line = line_then (cell_text table n) f fs (mark_text deleted) tail (mark_field true deleted) (mark_printed deleted) in
-    let whole = subst (λ (s : List Field). lines_from st.StartRecord (Some ((csv_fields (printed (cell_text table n)) 0 s ++ (mark_field true deleted ++ line_end [])) ++ tail))
-    ≡ (texts_from (cell_text table n) 0 s ++ mark_text deleted ∷ []) ∷ lines_from st.StartRecord (Some tail)) (sym is) line in
+    let whole = subst (λ (s : List Field). lines_from 44 st.StartRecord (Some ((csv_fields (printed (cell_text table n)) 0 s ++ (mark_field true deleted ++ line_end [])) ++ tail))
+    ≡ (texts_from (cell_text table n) 0 s ++ mark_text deleted ∷ []) ∷ lines_from 44 st.StartRecord (Some tail)) (sym is) line in
     whole ∙ ap (λ (t : List (List (List ℕ))). line_texts table n ∷ t) (lines_of_records f fs table is ns)
 
 -- ---- the heading
@@ -289,7 +289,7 @@ heading_strip f fs rest named =
 
 -- the lines of what is printed of a table: the names, and the texts of each record
 pub printed_lines : (table : Table) (f : Field) (fs : List Field) (numbers : List ℕ) → table.schema ≡ f ∷ fs → AreGood [] (f ∷ fs)
-    → csv_lines (csv_heading true table ++ flat_map (csv_line true table) numbers) ≡ (names_of table.schema ++ mark_name ∷ []) ∷ map (line_texts table) numbers
+    → csv_lines 44 (csv_heading true table ++ flat_map (csv_line true table) numbers) ≡ (names_of table.schema ++ mark_name ∷ []) ∷ map (line_texts table) numbers
 printed_lines table f fs numbers is good =
     let tail = flat_map (csv_line true table) numbers in
     let mark = codes ",deleted" in
@@ -300,8 +300,8 @@ printed_lines table f fs numbers is good =
     let quoted : heading (f ∷ fs) ++ tail ≡ (csv_fields (printed name_text) 0 (f ∷ fs) ++ (mark ++ line_end [])) ++ tail =
     ap (λ (t : List ℕ). (t ++ (mark ++ line_end [])) ++ tail) (names_printed [] 0 (f ∷ fs) good) in
     let read = line_then name_text f fs mark_name tail mark heading_mark in
-    let lines : lines_from st.StartRecord (Some (strip_bom (heading (f ∷ fs) ++ tail))) ≡ (names_of (f ∷ fs) ++ mark_name ∷ []) ∷ lines_from st.StartRecord (Some tail) =
-    ap (λ (t : List ℕ). lines_from st.StartRecord (Some t)) (bare ∙ quoted) ∙ read
-    ∙ ap (λ (t : List (List ℕ)). (t ++ mark_name ∷ []) ∷ lines_from st.StartRecord (Some tail)) (names_texts 0 (f ∷ fs)) in
-    subst (λ (s : List Field). lines_from st.StartRecord (Some (strip_bom (heading s ++ tail))) ≡ (names_of s ++ mark_name ∷ []) ∷ lines_from st.StartRecord (Some tail)) (sym is) lines
+    let lines : lines_from 44 st.StartRecord (Some (strip_bom (heading (f ∷ fs) ++ tail))) ≡ (names_of (f ∷ fs) ++ mark_name ∷ []) ∷ lines_from 44 st.StartRecord (Some tail) =
+    ap (λ (t : List ℕ). lines_from 44 st.StartRecord (Some t)) (bare ∙ quoted) ∙ read
+    ∙ ap (λ (t : List (List ℕ)). (t ++ mark_name ∷ []) ∷ lines_from 44 st.StartRecord (Some tail)) (names_texts 0 (f ∷ fs)) in
+    subst (λ (s : List Field). lines_from 44 st.StartRecord (Some (strip_bom (heading s ++ tail))) ≡ (names_of s ++ mark_name ∷ []) ∷ lines_from 44 st.StartRecord (Some tail)) (sym is) lines
     ∙ ap (λ (t : List (List (List ℕ))). (names_of table.schema ++ mark_name ∷ []) ∷ t) (lines_of_records f fs table is numbers)

@@ -3,7 +3,7 @@ use Rattle.std.proofs.Common.{◌≡◌, ◌≤◌, ◌==◌, ◌≢◌, ◌∷�
 use Rattle.std.specs.Prelude.{Ok, Result, nat_lt, ◌&&◌, if◌then◌else◌}
 use Rattle.std.specs.List.{list_all}
 use Rattle.std.specs.Char.{is_ascii_digit}
-use Rattle.std.proofs.lemmas.Bool.{cases_Bool, ne_eqb, eqb-true, and_parts, le-ltb}
+use Rattle.std.proofs.lemmas.Bool.{cases_Bool, eq-eqb, ne_eqb, eqb-true, and_parts, le-ltb}
 use Rattle.std.proofs.lemmas.Bool.Decides.{nat_tests}
 use Rattle.dbf_fields.specs.declared.field.Field.{Field}
 use Rattle.dbf_fields.specs.declared.format.TheConstants.{BLANK, CHARACTER, DATE, LOGICAL, MAX_NUMBER_WIDTH, MEMO, NUMBER}
@@ -14,10 +14,14 @@ use Rattle.dbf_fields.specs.Number.{number, signed, trimmed}
 use Rattle.dbf_image.specs.Table.{IsCell, is_memo_text}
 use Rattle.table_text.specs.Csv.{csv_value}
 use Rattle.table_text.specs.Shown.{trimmed_end}
+use Rattle.table_loader.specs.declared.form.CsvForm.{CsvForm}
+use Rattle.table_loader.specs.declared.form.DateForm.{DateForm}
+use Rattle.table_loader.specs.declared.form.DateForm.TheVariants.{Digits}
+use Rattle.table_loader.specs.Dates.{bytes_at}
 use Rattle.table_loader.specs.ComingBack.{HasMeaning, IsDayCell, IsNumberCell, IsTruthCell}
-use Rattle.table_loader.specs.Values.{date_value, number_value, text_value, truth_value, value_of}
+use Rattle.table_loader.specs.Values.{date_value, number_value, text_value, value_of}
 use Rattle.table_loader.specs.declared.fault.ValueFault.{ValueFault}
-use Rattle.table_loader.proofs.BlankLaws.{blank_end, blank_trimmed, digits_end, end_again, end_short, trimmed_short, trimmed_twice}
+use Rattle.table_loader.proofs.BlankLaws.{blank_end, blank_trimmed, digits_end, digits_trimmed, end_again, end_short, end_twice, trimmed_short, trimmed_twice}
 
 -- what is said where there is a text, and where there is none
 abbrev pub blank_or : ℕ → List ℕ → Result (List ℕ) ValueFault → Result (List ℕ) ValueFault
@@ -39,10 +43,11 @@ nothing_cut false = refl
 
 text_back : (cut : Bool) (width : ℕ) (cell : List ℕ) → length cell ≡ width → text_value cut width (trimmed_end cell) ≡ Ok cell
 text_back cut width cell long =
-    let short : nat_lt width (length (trimmed_end cell)) ≡ false = le-ltb width (length (trimmed_end cell)) (omega (arith, end_short cell, long)) in
+    let short : nat_lt width (length (trimmed_end (trimmed_end cell))) ≡ false =
+    le-ltb width (length (trimmed_end (trimmed_end cell))) (omega (arith, ap length (end_twice cell), end_short cell, long)) in
     rw (short, nothing_cut cut) (ap Ok (end_again width cell long))
 
-number_again : (cell : List ℕ) (decimals : ℕ) → number (trimmed cell) decimals ≡ number cell decimals
+pub number_again : (cell : List ℕ) (decimals : ℕ) → number (trimmed cell) decimals ≡ number cell decimals
 unfolding number
 number_again cell decimals = ap (λ (text : List ℕ). signed text decimals) (trimmed_twice cell)
 
@@ -53,22 +58,31 @@ number_back f cell long narrow (inr kept) full =
     let short : nat_lt MAX_NUMBER_WIDTH (length (trimmed cell)) ≡ false = le-ltb MAX_NUMBER_WIDTH (length (trimmed cell)) (omega (arith, trimmed_short cell, long, narrow)) in
     rw (short, number_again cell f.decimals, kept) refl
 
-truth_said_again : (truth : Bool) → truth_value 1 (trimmed_end (truth_text truth)) ≡ Ok (truth_text truth)
-unfolding trimmed_end
-truth_said_again true = refl
-truth_said_again false = refl
-
-truth_back : (width : ℕ) (cell : List ℕ) → width ≡ 1 → IsTruthCell cell → trimmed_end cell ≢ [] → truth_value width (trimmed_end cell) ≡ Ok cell
-truth_back width cell one (inl blank) full = absurd (full blank)
-truth_back width cell one (inr (truth, is)) full = rw (is, one) (truth_said_again truth)
-
-date_digits : (cell : List ℕ) → is_date cell ≡ true → list_all is_ascii_digit cell ≡ true
+date_digits_of : (cell : List ℕ) → is_date cell ≡ true → list_all is_ascii_digit cell ≡ true
 unfolding is_date
-date_digits cell real = (and_parts _ _ (and_parts _ _ real).1).0
+date_digits_of cell real = (and_parts _ _ (and_parts _ _ real).1).0
 
-date_back : (cell : List ℕ) → IsDayCell cell → trimmed_end cell ≢ [] → date_value (trimmed_end cell) ≡ Ok cell
-date_back cell (inl blank) full = absurd (full blank)
-date_back cell (inr real) full = rw (digits_end cell (date_digits cell real), real) refl
+eight_digits : (cell : List ℕ) → is_date cell ≡ true → length cell ≡ 8
+unfolding is_date
+eight_digits cell real = eqb-true _ _ (and_parts _ _ real).0
+
+-- eight bytes, one after the other
+eight_again : (cell : List ℕ) → length cell ≡ 8 → bytes_at cell (0 ∷ 1 ∷ 2 ∷ 3 ∷ 4 ∷ 5 ∷ 6 ∷ 7 ∷ []) ≡ cell
+eight_again [] long = absurd (omega (arith, long))
+eight_again (a ∷ []) long = absurd (omega (arith, long))
+eight_again (a ∷ b ∷ []) long = absurd (omega (arith, long))
+eight_again (a ∷ b ∷ c ∷ []) long = absurd (omega (arith, long))
+eight_again (a ∷ b ∷ c ∷ d ∷ []) long = absurd (omega (arith, long))
+eight_again (a ∷ b ∷ c ∷ d ∷ e ∷ []) long = absurd (omega (arith, long))
+eight_again (a ∷ b ∷ c ∷ d ∷ e ∷ f ∷ []) long = absurd (omega (arith, long))
+eight_again (a ∷ b ∷ c ∷ d ∷ e ∷ f ∷ g ∷ []) long = absurd (omega (arith, long))
+eight_again (a ∷ b ∷ c ∷ d ∷ e ∷ f ∷ g ∷ h ∷ []) long = refl
+eight_again (a ∷ b ∷ c ∷ d ∷ e ∷ f ∷ g ∷ h ∷ i ∷ more) long = absurd (omega (arith, long))
+
+date_back : (form : DateForm) (cell : List ℕ) → form ≡ Digits → is_date cell ≡ true → date_value form cell ≡ Ok cell
+date_back form cell plain real =
+    let long = eight_digits cell real in
+    rw (plain, eq-eqb (length cell) 8 long, eight_again cell long, real) refl
 
 -- ---- any cell
 
@@ -96,39 +110,56 @@ kinds k known = elim (cases_Bool (k == MEMO)) [
   ]
 ]
 
-memo_back : (cut : Bool) (f : Field) (cell : List ℕ) → f.kind ≡ MEMO → is_memo_text cell ≡ true → value_of cut f (csv_value f.kind cell) ≡ Ok cell
+memo_back : (form : CsvForm) (f : Field) (cell : List ℕ) → f.kind ≡ MEMO → is_memo_text cell ≡ true → value_of form f (csv_value f.kind cell) ≡ Ok cell
 unfolding value_of csv_value
-memo_back cut f cell kind text = rw (kind, text) refl
+memo_back form f cell kind text = rw (kind, text) refl
 
-character_back : (cut : Bool) (f : Field) (cell : List ℕ) → f.kind ≡ CHARACTER → length cell ≡ f.width → value_of cut f (csv_value f.kind cell) ≡ Ok cell
+character_back : (form : CsvForm) (f : Field) (cell : List ℕ) → f.kind ≡ CHARACTER → length cell ≡ f.width → value_of form f (csv_value f.kind cell) ≡ Ok cell
 unfolding value_of csv_value
-character_back cut f cell kind long = rw kind (blank_or_said f.width cell (trimmed_end cell) _ (blank_end f.width cell long) (λ _. text_back cut f.width cell long))
+character_back form f cell kind long =
+    rw kind (blank_or_said f.width cell (trimmed_end cell) _ (blank_end f.width cell long) (λ _. text_back form.cut f.width cell long))
 
-numeric_back : (cut : Bool) (f : Field) (cell : List ℕ) → f.kind ≡ NUMBER → length cell ≡ f.width → f.width ≤ MAX_NUMBER_WIDTH → IsNumberCell f cell
-    → value_of cut f (csv_value f.kind cell) ≡ Ok cell
+numeric_back : (form : CsvForm) (f : Field) (cell : List ℕ) → f.kind ≡ NUMBER → length cell ≡ f.width → f.width ≤ MAX_NUMBER_WIDTH → IsNumberCell f cell
+    → value_of form f (csv_value f.kind cell) ≡ Ok cell
 unfolding value_of csv_value number_value
-numeric_back cut f cell kind long narrow meaning = rw kind (blank_or_said f.width cell (trimmed cell) _ (blank_trimmed f.width cell long) (number_back f cell long narrow meaning))
+numeric_back form f cell kind long narrow meaning =
+    rw (kind, trimmed_twice cell) (blank_or_said f.width cell (trimmed cell) _ (blank_trimmed f.width cell long) (number_back f cell long narrow meaning))
 
-logical_back : (cut : Bool) (f : Field) (cell : List ℕ) → f.kind ≡ LOGICAL → length cell ≡ f.width → f.width ≡ 1 → IsTruthCell cell → value_of cut f (csv_value f.kind cell) ≡ Ok cell
-unfolding value_of csv_value
-logical_back cut f cell kind long one meaning = rw kind (blank_or_said f.width cell (trimmed_end cell) _ (blank_end f.width cell long) (truth_back f.width cell one meaning))
+truth_again : (form : CsvForm) (f : Field) (truth : Bool) → f.kind ≡ LOGICAL → f.width ≡ 1 → value_of form f (csv_value f.kind (truth_text truth)) ≡ Ok (truth_text truth)
+unfolding value_of csv_value trimmed trimmed_end
+truth_again form f true kind one = rw (kind, one) refl
+truth_again form f false kind one = rw (kind, one) refl
 
-day_back : (cut : Bool) (f : Field) (cell : List ℕ) → f.kind ≡ DATE → length cell ≡ f.width → IsDayCell cell → value_of cut f (csv_value f.kind cell) ≡ Ok cell
+logical_back : (form : CsvForm) (f : Field) (cell : List ℕ) → f.kind ≡ LOGICAL → length cell ≡ f.width → f.width ≡ 1 → IsTruthCell cell → value_of form f (csv_value f.kind cell) ≡ Ok cell
+unfolding value_of csv_value trimmed
+logical_back form f cell kind long one (inl blank) = rw (kind, blank) (ap Ok (sym (blank_end f.width cell long blank)))
+logical_back form f cell kind long one (inr (truth, is)) =
+    ap (λ (x : List ℕ). value_of form f (csv_value f.kind x)) is ∙ truth_again form f truth kind one ∙ ap Ok (sym is)
+
+blank_day : (form : CsvForm) (f : Field) (cell : List ℕ) → f.kind ≡ DATE → length cell ≡ f.width → trimmed_end cell ≡ [] → value_of form f (csv_value f.kind cell) ≡ Ok cell
+unfolding value_of csv_value trimmed
+blank_day form f cell kind long blank = rw (kind, blank) (ap Ok (sym (blank_end f.width cell long blank)))
+
+day_back : (form : CsvForm) (f : Field) (cell : List ℕ) → form.dates ≡ Digits → f.kind ≡ DATE → length cell ≡ f.width → IsDayCell cell → value_of form f (csv_value f.kind cell) ≡ Ok cell
 unfolding value_of csv_value
-day_back cut f cell kind long meaning = rw kind (blank_or_said f.width cell (trimmed_end cell) _ (blank_end f.width cell long) (date_back cell meaning))
+day_back form f cell plain kind long (inl blank) = blank_day form f cell kind long blank
+day_back form f cell plain kind long (inr real) =
+    let digits = date_digits_of cell real in
+    let some : (length cell == 0) ≡ false = ne_eqb (length cell) 0 (λ e. omega (arith, e, eight_digits cell real)) in
+    rw (kind, digits_end cell digits, digits_trimmed cell digits, some) (date_back form.dates cell plain real)
 
 -- the text that is printed of a cell that means something says this cell
-pub value_back : (cut : Bool) (f : Field) (cell : List ℕ) → is_kind f.kind ≡ true → has_width f ≡ true → IsCell f cell → HasMeaning f cell
-    → value_of cut f (csv_value f.kind cell) ≡ Ok cell
-value_back cut f cell kind wide is meaning = elim (kinds f.kind kind) [
-  | inl memo ↦ memo_back cut f cell memo (is.0 memo)
+pub value_back : (form : CsvForm) (f : Field) (cell : List ℕ) → form.dates ≡ Digits → is_kind f.kind ≡ true → has_width f ≡ true → IsCell f cell → HasMeaning f cell
+    → value_of form f (csv_value f.kind cell) ≡ Ok cell
+value_back form f cell plain kind wide is meaning = elim (kinds f.kind kind) [
+  | inl memo ↦ memo_back form f cell memo (is.0 memo)
   | inr others ↦ elim others [
-    | inl text ↦ character_back cut f cell text (is.1 (λ e. omega (arith, sym text ∙ e)))
+    | inl text ↦ character_back form f cell text (is.1 (λ e. omega (arith, sym text ∙ e)))
     | inr more ↦ elim more [
-      | inl numeric ↦ numeric_back cut f cell numeric (is.1 (λ e. omega (arith, sym numeric ∙ e))) (narrow_number f numeric wide) (meaning.as_number numeric)
+      | inl numeric ↦ numeric_back form f cell numeric (is.1 (λ e. omega (arith, sym numeric ∙ e))) (narrow_number f numeric wide) (meaning.as_number numeric)
       | inr rest ↦ elim rest [
-        | inl logical ↦ logical_back cut f cell logical (is.1 (λ e. omega (arith, sym logical ∙ e))) (narrow_truth f logical wide) (meaning.as_truth logical)
-        | inr day ↦ day_back cut f cell day (is.1 (λ e. omega (arith, sym day ∙ e))) (meaning.as_date day)
+        | inl logical ↦ logical_back form f cell logical (is.1 (λ e. omega (arith, sym logical ∙ e))) (narrow_truth f logical wide) (meaning.as_truth logical)
+        | inr day ↦ day_back form f cell plain day (is.1 (λ e. omega (arith, sym day ∙ e))) (meaning.as_date day)
       ]
     ]
   ]

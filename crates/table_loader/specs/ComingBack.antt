@@ -10,6 +10,9 @@ use Rattle.dbf_image.specs.Table.{Table}
 use Rattle.table_text.specs.declared.selection.Selection.{Selection}
 use Rattle.table_text.specs.Csv.{csv_text}
 use Rattle.table_text.specs.Shown.{trimmed_end}
+use Rattle.table_loader.specs.declared.form.CsvForm.{CsvForm}
+use Rattle.table_loader.specs.declared.form.DateForm.TheVariants.{Digits}
+use Rattle.table_loader.specs.declared.form.Separator.TheVariants.{Comma}
 use Rattle.table_loader.specs.Values.{kept_number}
 
 -- the cell is blank, or it is the one in which REPLACE keeps the number that it has
@@ -39,6 +42,11 @@ HaveMeaning (f ∷ fs) (c ∷ cs) = HasMeaning f c × HaveMeaning fs cs
 -- and of a table
 abbrev pub ComesBack : Table → Type 0
 ComesBack table = AllByRecursion (λ row. HaveMeaning table.schema row.cells) table.rows
+
+-- a text is read in the form in which a table is printed
+pub record IsPrintedForm (form : CsvForm) : Type 0 where
+  pub separator : form.separator ≡ Comma
+  pub dates : form.dates ≡ Digits
 
 -- all records, marked ones too
 abbrev pub all_records : Selection

@@ -1,10 +1,11 @@
 -- Why a text of CSV is not loaded, in words.
-use Rattle.std.specs.Prelude.{ℕ, List, [], ◌++◌, codes, map, slice_index_or}
+use Rattle.std.specs.Prelude.{ℕ, List, [], ◌++◌, ◌==◌, codes, length, map, slice_index_or, if◌then◌else◌}
 use Rattle.std.specs.Fmt.{decimal}
 use Rattle.dbf_fields.specs.declared.field.Field.{Field}
 use Rattle.table_loader.specs.declared.fault.CsvFault.{CsvFault}
 use Rattle.table_loader.specs.declared.fault.CsvFault.TheVariants as csv
 use Rattle.table_loader.specs.declared.fault.ValueFault.{ValueFault}
+use Rattle.table_loader.specs.declared.named.NamedFault.{NamedFault}
 use Rattle.table_loader.specs.declared.fault.ValueFault.TheVariants as value
 
 -- the names of fields
@@ -46,3 +47,7 @@ csv_words name (csv.TableFull line) = line_words line (codes ": TableFull")
 csv_words name (csv.Value line field why) = line_words line (codes ", " ++ (name ++ (codes ": " ++ value_name why)))
 csv_words name (csv.BadMark line) = line_words line (codes ": the mark is not true or false")
 csv_words name csv.NoMemory = codes "out of memory"
+
+-- what is told of a fault, or the fault alone, where nothing is told of it
+abbrev pub fault_words : NamedFault → List ℕ
+fault_words fault = if length fault.told == 0 then csv_words fault.field fault.why else fault.told

@@ -1,5 +1,6 @@
 -- The heading of a text of CSV: which column has the values of a field, and which one the marks.
-use Rattle.std.specs.Prelude.{ℕ, ◌+◌, Bool, not, ◌||◌, List, [], ◌∷◌, ◌++◌, length, map, codes, bytes_eq, position, slice_index_or, Option, Some, None}
+use Rattle.std.specs.Prelude.{ℕ, ◌+◌, Bool, not, ◌||◌, List, [], ◌∷◌, ◌++◌, length, map, codes, bytes_eq, if◌then◌else◌, position, slice_index_or, Option, Some, None}
+use Rattle.std.specs.Char.{to_ascii_uppercase}
 use Rattle.std.specs.List.{list_any}
 use Rattle.dbf_fields.specs.declared.field.Field.{Field}
 use Rattle.dbf_fields.specs.Field.{has_name}
@@ -9,6 +10,10 @@ use Rattle.table_loader.specs.declared.fault.CsvFault.TheVariants.{DoubledName, 
 -- the name of the column of marks, in small letters, which no field's name has
 abbrev pub mark_name : List ℕ
 mark_name = codes "deleted"
+
+-- the name that a text of a heading is: that of the marks in small letters alone, that of a field in any
+abbrev pub column_name : List ℕ → List ℕ
+column_name text = if bytes_eq text mark_name then text else map to_ascii_uppercase text
 
 -- a column has the name
 abbrev pub is_named : List (List ℕ) → List ℕ → Bool

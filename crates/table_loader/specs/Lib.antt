@@ -1,4 +1,5 @@
 pub mod CsvText
+pub mod Dates
 pub mod Values
 pub mod Headings
 pub mod Loading

@@ -1,5 +1,5 @@
 -- What a text of CSV makes of a table: a record more for each line after the heading, or the first fault.
-use Rattle.std.specs.Prelude.{◌≡◌, ◌⊎◌, ℕ, ◌+◌, Bool, true, false, nat_lt, ◌==◌, bytes_eq, codes, List, [], ◌∷◌, length, Option, Some, None, Result, Ok, Err, if◌then◌else◌}
+use Rattle.std.specs.Prelude.{◌≡◌, ◌⊎◌, ℕ, ◌+◌, Bool, true, false, nat_lt, ◌==◌, bytes_eq, codes, List, [], ◌∷◌, length, map, Option, Some, None, Result, Ok, Err, if◌then◌else◌}
 use Rattle.dbf_fields.specs.declared.field.Field.{Field}
 use Rattle.dbf_fields.specs.Faults.{first_fault}
 use Rattle.dbf_image.specs.declared.format.TheConstants.{MAX_RECORDS}
@@ -7,11 +7,12 @@ use Rattle.dbf_image.specs.Table.{Row, Table, blank_row, row_marked, row_with_ce
 use Rattle.table_loader.specs.declared.fault.CsvFault.{CsvFault}
 use Rattle.table_loader.specs.declared.fault.CsvFault.TheVariants.{BadMark, CellCount, NoHeading, NoMemory, TableFull, Value}
 use Rattle.table_loader.specs.declared.fault.ValueFault.{ValueFault}
+use Rattle.table_loader.specs.declared.form.CsvForm.{CsvForm}
 use Rattle.table_loader.specs.declared.record.Plan.{Plan}
 use Rattle.table_loader.specs.declared.value.PutFault.{PutFault}
 use Rattle.table_loader.specs.declared.value.PutFault.TheVariants as putting
-use Rattle.table_loader.specs.CsvText.{csv_lines}
-use Rattle.table_loader.specs.Headings.{Columns, columns_by, names_tests, text_for, text_in_column}
+use Rattle.table_loader.specs.CsvText.{csv_lines, separator_byte}
+use Rattle.table_loader.specs.Headings.{Columns, column_name, columns_by, names_tests, text_for, text_in_column}
 use Rattle.table_loader.specs.Values.{value_of}
 
 -- what comes of a value, or the fault that stands for it
@@ -29,11 +30,11 @@ row_with_value line field row (Ok cell) = Ok (row_with_cell row field cell)
 row_with_value line field row (Err why) = Err (Value line field why)
 
 -- a record in which the fields from the one of this index on have what the line says
-abbrev pub filled : Bool → Columns → ℕ → List (List ℕ) → ℕ → List Field → Row → Result Row CsvFault
-filled cut columns line cells index [] row = Ok row
-filled cut columns line cells index (f ∷ fs) row =
-    unless_fault (row_with_value line index row (value_of cut f (text_for columns cells index)))
-    (λ row. filled cut columns line cells (index + 1) fs row)
+abbrev pub filled : CsvForm → Columns → ℕ → List (List ℕ) → ℕ → List Field → Row → Result Row CsvFault
+filled form columns line cells index [] row = Ok row
+filled form columns line cells index (f ∷ fs) row =
+    unless_fault (row_with_value line index row (value_of form f (text_for columns cells index)))
+    (λ row. filled form columns line cells (index + 1) fs row)
 
 -- whether a line's record is marked: `true`, or `false` or nothing
 abbrev pub mark_said : ℕ → List ℕ → Result Bool CsvFault
@@ -44,24 +45,24 @@ mark_said line text =
     Err (BadMark line)))
 
 -- the record of a line: one of blanks, in which each field has what the line says, and then its mark
-abbrev pub row_of_line : Bool → Columns → ℕ → List (List ℕ) → List Field → Result Row CsvFault
-row_of_line cut columns line cells fields =
-    unless_fault (filled cut columns line cells 0 fields (blank_row fields)) (λ row.
+abbrev pub row_of_line : CsvForm → Columns → ℕ → List (List ℕ) → List Field → Result Row CsvFault
+row_of_line form columns line cells fields =
+    unless_fault (filled form columns line cells 0 fields (blank_row fields)) (λ row.
     unless_fault (mark_said line (text_in_column cells columns.of_marks)) (λ deleted.
     Ok (row_marked row deleted)))
 
 -- the table with the record of a line after the others, or the first fault; the line has as many cells as the heading
-abbrev pub with_line : Bool → Columns → ℕ → Table → List (List ℕ) → Result Table CsvFault
-with_line cut columns line table cells =
+abbrev pub with_line : CsvForm → Columns → ℕ → Table → List (List ℕ) → Result Table CsvFault
+with_line form columns line table cells =
     tested (length cells == columns.count) (CellCount line) (
     tested (nat_lt (length table.rows) MAX_RECORDS) (TableFull line) (
-    unless_fault (row_of_line cut columns line cells table.schema) (λ row. Ok (with_row table row))))
+    unless_fault (row_of_line form columns line cells table.schema) (λ row. Ok (with_row table row))))
 
 -- the table with the records of lines, the first of which has this number, or the first fault
-abbrev pub with_lines : Bool → Columns → ℕ → Table → List (List (List ℕ)) → Result Table CsvFault
-with_lines cut columns line table [] = Ok table
-with_lines cut columns line table (cells ∷ more) =
-    unless_fault (with_line cut columns line table cells) (λ table. with_lines cut columns (line + 1) table more)
+abbrev pub with_lines : CsvForm → Columns → ℕ → Table → List (List (List ℕ)) → Result Table CsvFault
+with_lines form columns line table [] = Ok table
+with_lines form columns line table (cells ∷ more) =
+    unless_fault (with_line form columns line table cells) (λ table. with_lines form columns (line + 1) table more)
 
 -- an outcome, or the fault where there is one
 abbrev pub unless_some : {Y : Type 0} → Option CsvFault → Result Y CsvFault → Result Y CsvFault
@@ -69,14 +70,15 @@ unless_some None outcome = outcome
 unless_some (Some fault) outcome = Err fault
 
 -- the table after all lines, of which the first is the heading and the second has the number 2, or the first fault
-abbrev pub loaded : Bool → Table → List (List (List ℕ)) → Result Table CsvFault
-loaded cut table [] = Err NoHeading
-loaded cut table (names ∷ lines) =
-    unless_some (first_fault (names_tests table.schema [] names)) (with_lines cut (columns_by table.schema names) 2 table lines)
+abbrev pub loaded : CsvForm → Table → List (List (List ℕ)) → Result Table CsvFault
+loaded form table [] = Err NoHeading
+loaded form table (heading ∷ lines) =
+    let names = map column_name heading in
+    unless_some (first_fault (names_tests table.schema [] names)) (with_lines form (columns_by table.schema names) 2 table lines)
 
 -- what a text of CSV makes of a table, or the first fault
-abbrev pub csv_loaded : Bool → Table → List ℕ → Result Table CsvFault
-csv_loaded cut table text = loaded cut table (csv_lines text)
+abbrev pub csv_loaded : CsvForm → Table → List ℕ → Result Table CsvFault
+csv_loaded form table text = loaded form table (csv_lines (separator_byte form.separator) text)
 
 -- the fault is the outcome, but for want of memory
 abbrev pub IsCsvFault : {Y : Type 0} → CsvFault → Result Y CsvFault → Type 0
@@ -97,7 +99,7 @@ HasValuePut said old number field new = (cell : List ℕ) × (said ≡ Ok cell) 
 
 -- the record of a line without its mark, by a plan
 abbrev pub filled_by : Plan → ℕ → List (List ℕ) → Result Row CsvFault
-filled_by plan line cells = filled plan.cut plan.heading line cells 0 plan.schema (blank_row plan.schema)
+filled_by plan line cells = filled plan.form plan.heading line cells 0 plan.schema (blank_row plan.schema)
 
 -- a record was added to a table
 abbrev pub IsFilled : Result Row CsvFault → Table → Table → Type 0

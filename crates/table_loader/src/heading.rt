@@ -4,7 +4,8 @@ ghost use Rattle.std.specs.Prelude.{◌≡◌, ◌<◌, ◌||◌, [], length, ma
 ghost use Rattle.csv.specs.Records.{fields_of};
 ghost use Rattle.dbf_fields.specs.Faults.{first_fault};
 ghost use Rattle.dbf_fields.specs.Field.{has_name as one_has_name};
-ghost use Rattle.table_loader.specs.Headings.{column_of as column_by, columns_by, is_named, mark_name, names_tests, text_for as text_of_field, text_in_column};
+ghost use Rattle.std.specs.Char.{to_ascii_uppercase as capital_of};
+ghost use Rattle.table_loader.specs.Headings.{column_name as name_of_column, column_of as column_by, columns_by, is_named, mark_name, names_tests, text_for as text_of_field, text_in_column};
 ghost use Rattle.table_loader.specs.Loading.{IsHeadingFault};
 
 use crate::fault::CsvFault;
@@ -43,13 +44,34 @@ fn text_at(cells: &ByteRecord, column: usize) -> &[u8]
     }
 }
 
-// The names of a heading, copied out.
+// A text in capitals.
+fn in_capitals(alloc: Global, text: &[u8]) -> Result<Bytes, AllocError>
+    ensures value { IfOk result (λ name. name ≡ map capital_of text.now) }
+{
+    let bytes = text
+        .iter()
+        .map(|byte| byte.to_ascii_uppercase())
+        .collect(alloc)?;
+    Ok(Bytes::from_vec(bytes))
+}
+
+// The name that a text of a heading is.
+fn column_name(alloc: Global, text: &[u8]) -> Result<Bytes, AllocError>
+    ensures value { IfOk result (λ name. name ≡ name_of_column text.now) }
+{
+    if text == MARK_NAME {
+        return Bytes::from_slice(alloc, text);
+    }
+    in_capitals(alloc, text)
+}
+
+// The names of a heading.
 fn names_of(alloc: Global, heading: &ByteRecord) -> Result<Vec<Bytes>, AllocError>
-    ensures value { IfOk result (λ names. names.items ≡ fields_of heading.now) }
+    ensures value { IfOk result (λ names. names.items ≡ map name_of_column (fields_of heading.now)) }
 {
     let mut names = Vec::new(alloc);
     for column in 0..heading.len() {
-        names.push(Bytes::from_slice(alloc, text_at(heading, column))?)?;
+        names.push(column_name(alloc, text_at(heading, column))?)?;
     }
     Ok(names)
 }
@@ -110,7 +132,7 @@ fn columns_of(
 }
 
 impl Heading {
-    /// The columns by a heading.
+    /// The columns by a heading, which may have the fields' names in any letters.
     ///
     /// `UnknownName` and `DoubledName` tell the first name that is of no field or of an earlier column, and `NoMemory` that there
     /// was no memory.
@@ -119,9 +141,9 @@ impl Heading {
         fields: &[Field],
         heading: &ByteRecord,
     ) -> Result<Heading, CsvFault>
-        ensures value { IfOk result (λ columns. columns ≡ columns_by fields.now (fields_of heading.now)) }
-        ensures accepted { OnOk result (first_fault (names_tests fields.now [] (fields_of heading.now)) ≡ None) }
-        ensures refused { IfErr result (λ fault. IsHeadingFault fault fields.now (fields_of heading.now)) }
+        ensures value { IfOk result (λ columns. columns ≡ columns_by fields.now (map name_of_column (fields_of heading.now))) }
+        ensures accepted { OnOk result (first_fault (names_tests fields.now [] (map name_of_column (fields_of heading.now))) ≡ None) }
+        ensures refused { IfErr result (λ fault. IsHeadingFault fault fields.now (map name_of_column (fields_of heading.now))) }
     {
         let names = names_of(alloc, heading)?;
         check_names(fields, &names)?;

@@ -2,13 +2,15 @@
 
 ghost use Rattle.std.specs.Prelude.{◌≡◌, ◌++◌, [], codes, slice_index_or, Ok, IfOk, IfErr, OnOk};
 ghost use Rattle.std.specs.Io.KnownBytes.{Appends};
-ghost use Rattle.table_loader.specs.FaultWords.{column_words, csv_words, field_at_fault, field_names as names_of_fields, line_words, name_at_fault, value_name as name_of_value};
+ghost use Rattle.table_loader.specs.FaultWords.{column_words, csv_words, fault_words, field_at_fault, field_names as names_of_fields, line_words, name_at_fault, value_name as name_of_value};
 ghost use Rattle.table_loader.specs.Loading.{csv_loaded, IsCsvFault};
 
 use crate::fault::{CsvFault, ValueFault};
+use crate::form::CsvForm;
 use crate::load::load_csv;
+use crate::told::told_of;
 use byte_io::Bytes;
-use dbf_fields::Field;
+use dbf_fields::{Field, Schema};
 use dbf_image::TableData;
 use std::alloc::{AllocError, Global};
 use std::io::Write;
@@ -21,6 +23,9 @@ pub struct NamedFault {
     pub why: CsvFault,
     /// The name of the field whose value a text is not; empty where the fault is another.
     pub field: Bytes,
+    /// What is told of it: a line for each cell that is refused, up to a hundred, or the name that no field has; empty where the fault is
+    /// another, or memory was refused.
+    pub told: Bytes,
 }
 
 // The names of fields, copied out.
@@ -57,12 +62,32 @@ fn name_of(alloc: Global, names: Vec<Bytes>, why: CsvFault) -> Bytes
 }
 
 // A fault with the name of its field, where fields have these names.
-fn named(alloc: Global, names: Vec<Bytes>, why: CsvFault) -> NamedFault
+fn named(alloc: Global, names: Vec<Bytes>, why: CsvFault, told: Bytes) -> NamedFault
     ensures why { result.why ≡ why }
     ensures field { result.field ≡ name_at_fault names.items why }
 {
     let field = name_of(alloc, names, why);
-    NamedFault { why, field }
+    NamedFault { why, field, told }
+}
+
+// The names of a table's fields, and its schema, copied out.
+fn names_and_schema(alloc: Global, table: &TableData) -> Result<(Vec<Bytes>, Schema), AllocError>
+    ensures names { IfOk result (λ kept. kept.0.items ≡ names_of_fields table.now.schema) }
+{
+    let schema = table.schema();
+    let names = field_names(alloc, schema.fields())?;
+    Ok((names, schema.copy(alloc)?))
+}
+
+fn no_memory(alloc: Global) -> NamedFault
+    ensures why { result.why ≡ CsvFault.NoMemory }
+    ensures field { result.field ≡ [] }
+{
+    NamedFault {
+        why: CsvFault::NoMemory,
+        field: Bytes::new(alloc),
+        told: Bytes::new(alloc),
+    }
 }
 
 /// Adds a record for each line of a text of CSV after its heading to a table, as [`load_csv`] does. A fault tells the name of the
@@ -71,19 +96,36 @@ pub fn load_csv_named(
     alloc: Global,
     table: TableData,
     text: &[u8],
-    cut: bool,
+    form: CsvForm,
 ) -> Result<TableData, NamedFault>
-    ensures loaded { IfOk result (λ new. csv_loaded cut table text.now ≡ Ok new) }
-    ensures refused { IfErr result (λ fault. IsCsvFault fault.why (csv_loaded cut table text.now)) }
+    ensures loaded { IfOk result (λ new. csv_loaded form table text.now ≡ Ok new) }
+    ensures refused { IfErr result (λ fault. IsCsvFault fault.why (csv_loaded form table text.now)) }
     ensures named { IfErr result (λ fault. fault.field ≡ field_at_fault table.schema fault.why) }
 {
-    let names = match field_names(alloc, table.schema().fields()) {
-        Ok(names) => names,
-        Err(_) => return Err(named(alloc, Vec::new(alloc), CsvFault::NoMemory)),
+    let (names, schema) = match names_and_schema(alloc, &table) {
+        Ok(kept) => kept,
+        Err(_) => return Err(no_memory(alloc)),
     };
-    match load_csv(alloc, table, text, cut) {
+    match load_csv(alloc, table, text, form) {
         Ok(new) => Ok(new),
-        Err(why) => Err(named(alloc, names, why)),
+        Err(why) => {
+            let told = told_or_nothing(alloc, &schema, text, form, why);
+            Err(named(alloc, names, why, told))
+        }
+    }
+}
+
+// What is told of a fault, where there is memory for it.
+fn told_or_nothing(
+    alloc: Global,
+    schema: &Schema,
+    text: &[u8],
+    form: CsvForm,
+    why: CsvFault,
+) -> Bytes {
+    match told_of(alloc, schema, text, form, why) {
+        Ok(told) => told,
+        Err(_) => Bytes::new(alloc),
     }
 }
 
@@ -131,8 +173,8 @@ fn print_value<W: Write>(out: &mut W, line: u32, field: &[u8], why: ValueFault) 
 }
 
 impl NamedFault {
-    /// Prints why a text of CSV is not loaded. Takes no memory. An error where a write fails.
-    pub fn print<W: Write>(&self, out: &mut W) -> io::Result<()>
+    // Prints the fault alone.
+    fn print_fault<W: Write>(&self, out: &mut W) -> io::Result<()>
         ensures text { OnOk result (Appends (W.contents out.old) (W.contents out.new) (csv_words self.now.field self.now.why)) }
     {
         match self.why {
@@ -150,6 +192,19 @@ impl NamedFault {
             CsvFault::Value(line, _, why) => print_value(out, line, self.field.as_slice(), why),
             CsvFault::BadMark(line) => print_line(out, line, b": the mark is not true or false"),
             CsvFault::NoMemory => out.write_all(b"out of memory"),
+        }
+    }
+
+    /// Prints why a text of CSV is not loaded: what is told of the fault, or the fault alone. Takes no memory. An error where a write
+    /// fails.
+    pub fn print<W: Write>(&self, out: &mut W) -> io::Result<()>
+        ensures text { OnOk result (Appends (W.contents out.old) (W.contents out.new) (fault_words self.now)) }
+    {
+        let told = self.told.as_slice();
+        if told.is_empty() {
+            self.print_fault(out)
+        } else {
+            out.write_all(told)
         }
     }
 }

@@ -9,6 +9,7 @@ ghost use Rattle.table_loader.specs.Loading.{fault_told, filled_by, mark_said as
 ghost use Rattle.table_loader.specs.Values.{value_of, IsPutFault};
 
 use crate::fault::{CsvFault, ValueFault};
+use crate::form::CsvForm;
 use crate::heading::Heading;
 use crate::value::{PutFault, cell_of};
 use csv::ByteRecord;
@@ -23,8 +24,8 @@ pub(crate) struct Plan {
     pub schema: Schema,
     /// The columns of the text.
     pub heading: Heading,
-    /// Whether a text that is too wide for its field is cut.
-    pub cut: bool,
+    /// How the text is written.
+    pub form: CsvForm,
 }
 
 // Puts what a text says into a record's cell or memo.
@@ -36,7 +37,7 @@ fn put_value(
     index: usize,
     field: &Field,
     text: &[u8],
-    cut: bool,
+    form: CsvForm,
 ) -> Result<(), PutFault>
     requires number { 1 ≤ number }
     requires inside { number ≤ length table.old.table.rows }
@@ -44,8 +45,8 @@ fn put_value(
     requires kind { kind_at table.old.table.schema index ≡ field.now.kind }
     requires wide { width_of table.old.table.schema index ≡ field.now.width }
     requires width { has_width field.now ≡ true }
-    ensures ok { OnOk result (HasValuePut (value_of cut field.now text.now) table.old.table number index table.new.table) }
-    ensures refused { IfErr result (λ fault. IsPutFault fault (value_of cut field.now text.now)) }
+    ensures ok { OnOk result (HasValuePut (value_of form field.now text.now) table.old.table number index table.new.table) }
+    ensures refused { IfErr result (λ fault. IsPutFault fault (value_of form field.now text.now)) }
 {
     if field.kind == MEMO {
         if !is_memo_text(text) {
@@ -55,7 +56,7 @@ fn put_value(
         table.set_memo(number, index, text);
         return Ok(());
     }
-    let cell = cell_of(alloc, field, text, cut)?;
+    let cell = cell_of(alloc, field, text, form)?;
     table.set_cell(number, index, cell.as_slice());
     Ok(())
 }
@@ -90,7 +91,7 @@ fn add_filled(
     let fields = plan.schema.fields();
     for (index, field) in fields.iter().enumerate() {
         let text = plan.heading.text_for(cells, index);
-        match put_value(alloc, table, number, index, field, text, plan.cut) {
+        match put_value(alloc, table, number, index, field, text, plan.form) {
             Ok(()) => {}
             Err(fault) => return Err(fault_of(line, index, fault)),
         }
@@ -123,8 +124,8 @@ pub(crate) fn add_line(
 ) -> Result<(), CsvFault>
     requires schema { plan.now.schema ≡ table.old.table.schema }
     requires columns { length plan.now.heading.of_fields ≡ length plan.now.schema }
-    ensures ok { OnOk result (with_line plan.now.cut plan.now.heading line table.old.table (fields_of cells.now) ≡ Ok table.new.table) }
-    ensures refused { IfErr result (λ fault. IsCsvFault fault (with_line plan.now.cut plan.now.heading line table.old.table (fields_of cells.now))) }
+    ensures ok { OnOk result (with_line plan.now.form plan.now.heading line table.old.table (fields_of cells.now) ≡ Ok table.new.table) }
+    ensures refused { IfErr result (λ fault. IsCsvFault fault (with_line plan.now.form plan.now.heading line table.old.table (fields_of cells.now))) }
     ensures schema { OnOk result (table.new.table.schema ≡ table.old.table.schema) }
     ensures one_more { OnOk result (length table.new.table.rows ≡ length table.old.table.rows + 1) }
     ensures count_bounded { OnOk result (length table.new.table.rows ≤ MAX_RECORDS) }

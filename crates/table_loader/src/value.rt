@@ -3,15 +3,19 @@
 ghost use Rattle.std.specs.Prelude.{◌≡◌, ◌≢◌, ◌≤◌, ◌-◌, true, length, None, Err, IfOk, IfErr, replicate};
 ghost use Rattle.dbf_fields.specs.Field.{has_width};
 ghost use Rattle.dbf_fields.specs.Number.{number};
-ghost use Rattle.table_loader.specs.Values.{cell_or_fault, date_value, number_value, text_value, truth_said, truth_value, value_of, IsPutFault};
+ghost use Rattle.table_loader.specs.Values.{cell_or_fault, cell_value, date_value, number_value, text_value, truth_said, truth_value, value_of, IsPutFault};
+ghost use Rattle.table_loader.specs.Values.{is_false_word as says_false, is_true_word as says_true, said_of as said_by};
 
+use crate::date::date_digits;
 use crate::fault::ValueFault;
+use crate::form::{CsvForm, DateForm};
 use byte_io::Bytes;
 use dbf_fields::{
     BLANK, CHARACTER, CellFault, DATE, DATE_WIDTH, DateCell, Field, LOGICAL, Literal,
-    MAX_NUMBER_WIDTH, MEMO, NUMBER, WholeNumber, encode_cell, read_date, read_number,
+    MAX_NUMBER_WIDTH, MEMO, NUMBER, WholeNumber, encode_cell, read_date, read_number, trimmed,
 };
 use std::alloc::{AllocError, Global};
+use table_text::trimmed_end;
 
 /// Why a value is not put into a record.
 pub(crate) enum PutFault {
@@ -48,7 +52,7 @@ fn text_cell(alloc: Global, field: &Field, text: &[u8], cut: bool) -> Result<Byt
     ensures wide { IfOk result (λ cell. length cell ≡ field.now.width) }
     ensures refused { IfErr result (λ fault. IsPutFault fault (text_value cut field.now.width text.now)) }
 {
-    if !cut && text.len() > usize::from(field.width) {
+    if !cut && trimmed_end(text).len() > usize::from(field.width) {
         return Err(PutFault::Value(ValueFault::TextTooWide));
     }
     let value = Literal::Text(Bytes::from_slice(alloc, text)?);
@@ -95,14 +99,34 @@ fn number_cell(alloc: Global, field: &Field, text: &[u8]) -> Result<Bytes, PutFa
     }
 }
 
+fn is_true_word(text: &[u8]) -> bool
+    ensures value { result ≡ says_true text.now }
+{
+    text.eq_ignore_ascii_case(b"T")
+        || text.eq_ignore_ascii_case(b"Y")
+        || text.eq_ignore_ascii_case(b"TRUE")
+        || text.eq_ignore_ascii_case(b"YES")
+}
+
+fn is_false_word(text: &[u8]) -> bool
+    ensures value { result ≡ says_false text.now }
+{
+    text.eq_ignore_ascii_case(b"F")
+        || text.eq_ignore_ascii_case(b"N")
+        || text.eq_ignore_ascii_case(b"FALSE")
+        || text.eq_ignore_ascii_case(b"NO")
+}
+
 // The logical value that a text is.
 fn truth_in(text: &[u8]) -> Option<bool>
     ensures value { result ≡ truth_said text.now }
 {
-    match text {
-        b"T" => Some(true),
-        b"F" => Some(false),
-        _ => None,
+    if is_true_word(text) {
+        Some(true)
+    } else if is_false_word(text) {
+        Some(false)
+    } else {
+        None
     }
 }
 
@@ -124,15 +148,52 @@ fn truth_cell(alloc: Global, field: &Field, text: &[u8]) -> Result<Bytes, PutFau
 
 // The cell of a date.
 #[tactic(auto, using(crate::proofs::DateLaws::date_wide, crate::proofs::DateLaws::blank_no_date))]
-fn date_cell(alloc: Global, text: &[u8]) -> Result<Bytes, PutFault>
-    ensures value { IfOk result (λ cell. date_value text.now ≡ Ok cell) }
+fn date_cell(alloc: Global, text: &[u8], form: DateForm) -> Result<Bytes, PutFault>
+    ensures value { IfOk result (λ cell. date_value form text.now ≡ Ok cell) }
     ensures wide { IfOk result (λ cell. length cell ≡ DATE_WIDTH) }
-    ensures refused { IfErr result (λ fault. IsPutFault fault (date_value text.now)) }
+    ensures refused { IfErr result (λ fault. IsPutFault fault (date_value form text.now)) }
 {
-    match read_date(text) {
-        DateCell::Is(_) => Ok(Bytes::from_slice(alloc, text)?),
+    let Some(digits) = date_digits(form, text) else {
+        return Err(PutFault::Value(ValueFault::BadDate));
+    };
+    match read_date(&digits) {
+        DateCell::Is(_) => Ok(Bytes::from_slice(alloc, &digits)?),
         DateCell::Blank => Err(PutFault::Value(ValueFault::BadDate)),
         DateCell::Odd => Err(PutFault::Value(ValueFault::BadDate)),
+    }
+}
+
+// What of a text says a value of a field.
+fn said_of<'a>(field: &Field, text: &'a [u8]) -> &'a [u8]
+    ensures value { result.now ≡ said_by field.now text.now }
+{
+    if field.kind == CHARACTER {
+        return text;
+    }
+    let said = trimmed(text);
+    if field.kind == LOGICAL && said == b"?".as_slice() {
+        return &[];
+    }
+    said
+}
+
+// The cell of what is said.
+fn cell_said(alloc: Global, field: &Field, said: &[u8], form: CsvForm) -> Result<Bytes, PutFault>
+    requires kind { field.now.kind ≢ MEMO }
+    requires width { has_width field.now ≡ true }
+    ensures value { IfOk result (λ cell. cell_value form field.now said.now ≡ Ok cell) }
+    ensures wide { IfOk result (λ cell. length cell ≡ field.now.width) }
+    ensures refused { IfErr result (λ fault. IsPutFault fault (cell_value form field.now said.now)) }
+{
+    if said.is_empty() {
+        return Ok(blanks(alloc, field.width)?);
+    }
+    match field.kind {
+        CHARACTER => text_cell(alloc, field, said, form.cut),
+        NUMBER => number_cell(alloc, field, said),
+        LOGICAL => truth_cell(alloc, field, said),
+        DATE => date_cell(alloc, said, form.dates),
+        _ => Err(PutFault::Value(ValueFault::TypeMismatch)),
     }
 }
 
@@ -145,22 +206,13 @@ pub(crate) fn cell_of(
     alloc: Global,
     field: &Field,
     text: &[u8],
-    cut: bool,
+    form: CsvForm,
 ) -> Result<Bytes, PutFault>
     requires kind { field.now.kind ≢ MEMO }
     requires width { has_width field.now ≡ true }
-    ensures value { IfOk result (λ cell. value_of cut field.now text.now ≡ Ok cell) }
+    ensures value { IfOk result (λ cell. value_of form field.now text.now ≡ Ok cell) }
     ensures wide { IfOk result (λ cell. length cell ≡ field.now.width) }
-    ensures refused { IfErr result (λ fault. IsPutFault fault (value_of cut field.now text.now)) }
+    ensures refused { IfErr result (λ fault. IsPutFault fault (value_of form field.now text.now)) }
 {
-    if text.is_empty() {
-        return Ok(blanks(alloc, field.width)?);
-    }
-    match field.kind {
-        CHARACTER => text_cell(alloc, field, text, cut),
-        NUMBER => number_cell(alloc, field, text),
-        LOGICAL => truth_cell(alloc, field, text),
-        DATE => date_cell(alloc, text),
-        _ => Err(PutFault::Value(ValueFault::TypeMismatch)),
-    }
+    cell_said(alloc, field, said_of(field, text), form)
 }

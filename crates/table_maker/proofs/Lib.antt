@@ -1,3 +1,4 @@
+pub mod IndexLaws
 pub mod LoadLaws
 pub mod MakeLaws
 pub mod PlaceLaws

@@ -1,7 +1,7 @@
 -- Why the records of a text of CSV are not loaded.
 use Rattle.std.proofs.Common.{◌≡◌, ◌≢◌, ℕ, Bool, true, false, List, [], ◌∷◌, Some, None, inl, refl, ap, sym, ◌∙◌}
 use Rattle.std.specs.Borrow.{Bor}
-use Rattle.std.specs.Prelude.{Option, IfSome, not, option_copied}
+use Rattle.std.specs.Prelude.{Option, Result, Ok, Err, IfSome, OnOk, not, option_copied}
 use Rattle.dbf_fields.specs.Faults.{first_fault}
 use Rattle.dbf_image.specs.Table.{Table}
 use Rattle.folders.specs.declared.named.NamedFile.{NamedFile}
@@ -10,6 +10,7 @@ use Rattle.folders.specs.declared.source.LoadFault.TheVariants.{CannotRead, NoMe
 use Rattle.folders.specs.Files.{has_list_beside, is_unreadable, load_refusal, IsFileOf, IsUnrecovered}
 use Rattle.folders.specs.Paths.{is_reserved_path}
 use Rattle.folders.specs.Placed.{IsListedAfter}
+use Rattle.program_frame.specs.InputDays.{FileAnswers, IsClosedBeside}
 use Rattle.table_reader.specs.Memos.{memo_path, IsLookedFor, IsMemosFault, IsNotHad, IsWhyUnread}
 use Rattle.table_reader.specs.TableFiles.{is_table_no_memory, IsTableAt, IsTableCount, IsTableReadFault}
 use Rattle.table_reader.specs.declared.fault.TableReadFault.{TableReadFault}
@@ -19,12 +20,12 @@ use Rattle.table_maker.specs.declared.files.FilesFault.TheVariants as writing
 use Rattle.table_maker.specs.declared.load_fault.LoadJobFault.{LoadJobFault}
 use Rattle.table_maker.specs.declared.load_fault.LoadJobFault.TheVariants as told
 use Rattle.table_maker.specs.declared.load_job.LoadJob.{LoadJob}
-use Rattle.table_maker.specs.LoadedTable.{csv_told, loaded_of_writing, IsLoadJobCount, IsLoadJobFailure, IsLoadJobFault, IsUnloadedText, IsWhyNotLoaded}
+use Rattle.table_maker.specs.LoadedTable.{csv_told, loaded_of_writing, IsLoadJobCount, IsLoadJobFailure, IsLoadDay, IsLoadJobFault, IsUnloadedText, IsWhyNotLoaded}
 
 -- ---- what is true whether it is known that a path was not had or not
 
 module _ (files : Option (List NamedFile)) (unread : List ℕ → Type 0) where
-  abbrev any : List ℕ → Type 0
+  abbrev pub any : List ℕ → Type 0
   any path = Unit {0}
 
   any_load : (path : List ℕ) (why : LoadFault) → IsWhyUnread files unread path why → IsWhyUnread files any path why
@@ -42,7 +43,8 @@ module _ (files : Option (List NamedFile)) (unread : List ℕ → Type 0) where
   any_path None h = h
   any_path (Some path) h = tt
 
-  any_table : (path : List ℕ) (memos : Option (List ℕ)) (why : TableReadFault) → IsTableReadFault files unread path memos why → IsTableReadFault files any path memos why
+  pub any_table : (path : List ℕ) (memos : Option (List ℕ)) (why : TableReadFault) → IsTableReadFault files unread path memos why
+      → IsTableReadFault files any path memos why
   any_table path memos (Load why) h = any_load path why h
   any_table path memos (Memos why) h = any_memos path memos why h
   any_table path memos (NoTable why) h = record {
@@ -130,3 +132,10 @@ memory_count files before after path (NoTable why) is h = h
 
 pub listed_as : (are more : List NamedFile → Type 0) (old new : Option (List ℕ)) → ((files : List NamedFile) → are files → more files) → IsListedAfter are old new → IsListedAfter more old new
 listed_as are more old new then h = record { files = h.files; such = then h.files h.such; written = h.written; bytes = h.bytes; told = h.told; distinct = h.distinct }
+
+-- no day is open in the folders of a job's files
+pub no_load_day : {T E : Type 0} (answers : FileAnswers) (job : LoadJob) (result : Result T E) → IsClosedBeside answers job.csv.now
+    → IsClosedBeside answers job.table.now → OnOk result (IfSome (option_copied job.memos) (IsClosedBeside answers))
+    → OnOk result (IsLoadDay answers job false)
+no_load_day answers job (Ok x) csv table memos = record { csv = csv; table = table; memos = memos }
+no_load_day answers job (Err y) csv table memos = tt

@@ -1,5 +1,7 @@
+pub mod IndexFaults
 pub mod LoadFaults
 pub mod LoadedTable
+pub mod MadeIndex
 pub mod MadeTable
 pub mod MakeFaults
 pub mod Making

@@ -1,6 +1,6 @@
 -- Why the records of a text of CSV are not loaded: the exit status, and what is said.
 use Rattle.std.specs.Prelude.{ℕ, List, ◌++◌, codes}
-use Rattle.table_loader.specs.FaultWords.{csv_words}
+use Rattle.table_loader.specs.FaultWords.{fault_words}
 use Rattle.table_reader.specs.TableFiles.{load_words, table_read_words}
 use Rattle.table_maker.specs.MakeFaults.{exists_words, unread_words, unwritten_words}
 use Rattle.table_maker.specs.declared.load_fault.LoadJobFault.{LoadJobFault}
@@ -16,11 +16,11 @@ load_status told.Exists = 2
 load_status told.Unread = 4
 load_status told.NoMemory = 3
 
--- why the records are not loaded; of a file, its path and why, as `DATA.CSV: line 12, AMOUNT: NumberTooWide`
+-- why the records are not loaded; of a file, its path and why, as `DATA.CSV: line 2: 3 cells, where the heading has 4`
 abbrev pub load_job_words : LoadJobFault → List ℕ
 load_job_words (told.Csv path why) = path.now ++ (codes ": " ++ load_words path.now why)
 load_job_words (told.Old path why) = path.now ++ (codes ": " ++ table_read_words path.now why)
-load_job_words (told.Text path why) = path.now ++ (codes ": " ++ csv_words why.field why.why)
+load_job_words (told.Text path why) = path.now ++ (codes ": " ++ fault_words why)
 load_job_words told.Write = unwritten_words
 load_job_words told.Exists = exists_words
 load_job_words told.Unread = unread_words

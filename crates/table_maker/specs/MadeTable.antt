@@ -8,12 +8,12 @@ use Rattle.table_maker.specs.declared.fault.MakeFault.{MakeFault}
 use Rattle.table_maker.specs.declared.fault.MakeFault.TheVariants as make
 use Rattle.table_maker.specs.declared.job.Made.{Made}
 use Rattle.table_maker.specs.declared.job.MakeJob.{MakeJob}
-use Rattle.table_maker.specs.Making.{AreMadeFiles, IsWhyNotMade}
+use Rattle.table_maker.specs.Making.{names_of_table, AreMadeFiles, IsWhyNotMade}
 use Rattle.table_maker.specs.Placing.{IsFree, IsUnplacedInto, LookFaults}
 
 -- neither name of a job's table has a file
 abbrev pub IsFreeOfTable : MakeJob → Folder → Type 0
-IsFreeOfTable job folder = IsFree job.stem.now job.in_capitals folder
+IsFreeOfTable job folder = IsFree (names_of_table job.stem.now job.in_capitals) folder
 
 -- these are the files of a job's table, over these files
 abbrev pub AreFilesOfJob : Option (List NamedFile) → MakeJob → List NamedFile → Type 0

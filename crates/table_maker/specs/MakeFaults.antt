@@ -16,7 +16,7 @@ make_status make.NoMemory = 3
 
 -- what both jobs say of a file that was not written
 abbrev pub unwritten_words : List ℕ
-unwritten_words = codes "cannot write the table"
+unwritten_words = codes "cannot write the table: is there room, and may the folder be written?"
 
 -- what both jobs say of a name that has a file
 abbrev pub exists_words : List ℕ

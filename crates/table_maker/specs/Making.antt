@@ -26,6 +26,10 @@ table_extension in_capitals = if in_capitals then codes ".DBF" else codes ".dbf"
 abbrev pub memos_extension : Bool → List ℕ
 memos_extension in_capitals = if in_capitals then codes ".DBT" else codes ".dbt"
 
+-- the names that the files of a table may have: its own, and that of its memos
+abbrev pub names_of_table : List ℕ → Bool → List (List ℕ)
+names_of_table stem in_capitals = (stem ++ table_extension in_capitals) ∷ (stem ++ memos_extension in_capitals) ∷ []
+
 -- the file of a table, with a date, under a name
 abbrev pub dated_file : List ℕ → Table → Day → NamedFile
 dated_file name table day = record { name = name; bytes = image table day.year day.month day.day }

@@ -1,20 +1,19 @@
--- A table's files that are made in the folder of a disk, and why they are not.
-use Rattle.std.specs.Prelude.{◌≡◌, ◌⊎◌, ◌<◌, ℕ, Bool, false, List, None, ◌++◌}
+-- Files that are made in the folder of a disk, and why they are not.
+use Rattle.std.specs.Prelude.{◌≡◌, ◌⊎◌, ◌<◌, ℕ, Bool, false, List, None}
+use Rattle.std.specs.List.{AllByRecursion}
 use Rattle.files_in_place.specs.Disk.{DiskMeaning}
 use Rattle.files_in_place.specs.Folder.{Folder, recovered}
 use Rattle.folders.specs.declared.named.NamedFile.{NamedFile}
-use Rattle.program_frame.specs.Jobs.{IsLoadFailure, IsPlaceFailure, IsRunFailure, IsUnbegun}
+use Rattle.program_frame.specs.Jobs.{IsLoadFailure, IsPlaceFailure, IsRunFailure, IsStopped}
 use Rattle.program_frame.specs.Placing.{HasPut, IsRecovered, RecoversAsOneOf}
 use Rattle.program_frame.specs.declared.ending.Failure.{Failure}
 use Rattle.program_frame.specs.declared.ending.Failure.TheVariants as failure
-use Rattle.table_maker.specs.Making.{memos_extension, table_extension}
 
 -- ---- the names
 
--- neither the name of the table's file nor that of the file of its memos has a file
-pub record IsFree (stem : List ℕ) (in_capitals : Bool) (folder : Folder) : Type 0 where
-  pub table : folder (stem ++ table_extension in_capitals) ≡ None
-  pub memos : folder (stem ++ memos_extension in_capitals) ≡ None
+-- none of these names has a file
+abbrev pub IsFree : List (List ℕ) → Folder → Type 0
+IsFree names folder = AllByRecursion (λ name. folder name ≡ None) names
 
 -- whatever was recovered on the disk is so still
 abbrev pub StaysRecovered : {D : Type 0} → DiskMeaning D → D → D → Type 0
@@ -35,9 +34,9 @@ IsLooking look no_memory fault = (fault ≡ look.exists) ⊎ ((fault ≡ look.un
 abbrev pub IsTaken : {F : Type 0} → LookFaults F → Bool → Failure F → Type 0
 IsTaken look replace why = (replace ≡ false) × ((why ≡ failure.Work look.exists) ⊎ (why ≡ failure.Work look.unread))
 
--- what is told where no file was begun: memory was refused, the folder was not recovered, or the names may not be taken
-abbrev pub IsUntried : {F : Type 0} → LookFaults F → F → Bool → Failure F → Type 0
-IsUntried look no_memory replace why = IsUnbegun no_memory why ⊎ IsTaken look replace why
+-- what is told where no file was begun: the work was stopped so, or the names may not be taken
+abbrev pub IsUntried : {F : Type 0} → LookFaults F → (F → Type 0) → F → Bool → Failure F → Type 0
+IsUntried look fails no_memory replace why = IsStopped fails no_memory why ⊎ IsTaken look replace why
 
 -- why files are not in their places, where this is said of the work: it fails so, or it came to its end
 abbrev pub IsUnplaced : {F : Type 0} → LookFaults F → F → (F → Type 0) → Type 0 → Bool → Failure F → Type 0
@@ -66,7 +65,7 @@ pub record HasFailed {D : Type 0} (m : DiskMeaning D) (is_opened : D → Type 0)
   pub opened : is_opened start
   pub failed : m.faults start < m.faults end
 
--- a table's files, which are such, were put into a folder that was opened so, of which this was true before
+-- files, which are such, were put into a folder that was opened so, of which this was true before
 pub record HasMadeInto {D : Type 0} (m : DiskMeaning D) (is_opened : D → Type 0) (are_such : List NamedFile → Type 0) (is_free : Folder → Type 0) : Type 0 where
   pub start : D
   pub end : D

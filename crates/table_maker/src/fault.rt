@@ -67,7 +67,7 @@ fn print_no_list<W: Write>(out: &mut W, path: &str, why: FieldListFault) -> io::
 pub(crate) fn print_unwritten<W: Write>(out: &mut W) -> io::Result<()>
     ensures text { OnOk result (Appends (W.contents out.old) (W.contents out.new) unwritten_words) }
 {
-    out.write_all(b"cannot write the table")
+    out.write_all(b"cannot write the table: is there room, and may the folder be written?")
 }
 
 /// Prints that one of the table's names has a file.

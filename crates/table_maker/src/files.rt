@@ -9,7 +9,7 @@ ghost use Rattle.dbf_image.specs.Image.{image};
 ghost use Rattle.dbf_image.specs.Table.{has_memos};
 ghost use Rattle.folders.specs.Files.{listing, IsOfBytes};
 ghost use Rattle.folders.specs.Placed.{IsListedAfter};
-ghost use Rattle.table_maker.specs.Making.{dated_file, files_of_table, memo_file, table_extension as extension_of_table, memos_extension as extension_of_memos};
+ghost use Rattle.table_maker.specs.Making.{dated_file, files_of_table, memo_file, names_of_table as names_by, table_extension as extension_of_table, memos_extension as extension_of_memos};
 
 use byte_io::{ByteSink, Bytes, SinkFault};
 use dbf_fields::{Day, Field, MEMO};
@@ -61,24 +61,34 @@ pub(crate) fn table_extension(in_capitals: bool) -> &'static [u8]
     if in_capitals { b".DBF" } else { b".dbf" }
 }
 
-/// The extension of the file of its memos, in capitals or in small letters.
-pub(crate) fn memos_extension(in_capitals: bool) -> &'static [u8]
+// The extension of the file of its memos, in capitals or in small letters.
+fn memos_extension(in_capitals: bool) -> &'static [u8]
     ensures value { result.now ≡ extension_of_memos in_capitals }
 {
     if in_capitals { b".DBT" } else { b".dbt" }
 }
 
-/// A file's name. An error where memory is refused.
-pub(crate) fn with_extension(
-    alloc: Global,
-    stem: &[u8],
-    extension: &[u8],
-) -> Result<Bytes, AllocError>
+// A file's name. An error where memory is refused.
+fn with_extension(alloc: Global, stem: &[u8], extension: &[u8]) -> Result<Bytes, AllocError>
     ensures value { IfOk result (λ name. name ≡ stem.now ++ extension.now) }
 {
     let mut name = Vec::from_slice(alloc, stem)?;
     name.extend_from_slice(extension)?;
     Ok(Bytes::from_vec(name))
+}
+
+/// The names that the files of a table may have: its own, and that of its memos. An error where memory is refused.
+pub(crate) fn names_of_table(
+    alloc: Global,
+    stem: &[u8],
+    in_capitals: bool,
+) -> Result<Vec<Bytes>, AllocError>
+    ensures value { IfOk result (λ names. names.items ≡ names_by stem.now in_capitals) }
+{
+    let mut names = Vec::new(alloc);
+    names.push(with_extension(alloc, stem, table_extension(in_capitals))?)?;
+    names.push(with_extension(alloc, stem, memos_extension(in_capitals))?)?;
+    Ok(names)
 }
 
 // Puts the bytes of a table's file.

@@ -1,25 +1,26 @@
-//! The making of a table in the folder of a disk, where its files take their places all together, over no file that is there
+//! The making of files of a table in the folder of a disk, where they take their places all together, over no file that is there
 //! unless it may be replaced.
 
-ghost use Rattle.std.specs.Prelude.{◌≡◌, ◌<◌, ◌≤◌, ◌++◌, false, None, Some, IfErr, IfOk, IsErr, IsErrOf, IsSome, OnOk};
+ghost use Rattle.std.specs.Prelude.{◌≡◌, ◌<◌, ◌≤◌, false, true, None, Some, IfErr, IfOk, IsErr, IsErrAnd, IsErrOf, IsSome, OnOk};
 ghost use Rattle.files_in_place.specs.Disk.{IsSyncedDisk, LeavesOnly};
 ghost use Rattle.files_in_place.specs.Folder.{recovered};
 ghost use Rattle.files_in_place.specs.Recovery.{HasOldFiles, IsClean, OthersAreWhole};
-ghost use Rattle.program_frame.specs.Jobs.{ComesToItsEnd, IsLoadFailure, IsPlaceFailure};
-ghost use Rattle.program_frame.specs.PlaceFaults.{IsOfRecovery};
+ghost use Rattle.open_day.specs.OpenDay.{has_open_day, mark_name};
+ghost use Rattle.program_frame.specs.BesideDay.{IsLeftForDay};
+ghost use Rattle.program_frame.specs.InputDays.{IsMarkAt};
+ghost use Rattle.program_frame.specs.Jobs.{ComesToItsEnd, IsLoadFailure, IsPlaceFailure, IsUnbegun};
+ghost use Rattle.program_frame.specs.PlaceFaults.{IsOfBeginning};
 ghost use Rattle.program_frame.specs.Placing.{EndsInPlace, IsRecovered, RecoversAsOneOf, TellsRecovery};
 ghost use Rattle.program_frame.specs.declared.ending.Failure.TheVariants.{Folder as OfFolder, Work as OfWork};
 ghost use Rattle.program_frame.specs.declared.folder.FolderFault.{FolderFault};
-ghost use Rattle.table_maker.specs.Making.{memos_extension as extension_of_memos, table_extension as extension_of_table};
 ghost use Rattle.table_maker.specs.Placing.{IsFree, IsLooking, IsUnplaced, IsUnplacedLoad, IsUntried, StaysRecovered};
 
-use crate::files::{memos_extension, table_extension, with_extension};
 use crate::table_work::TableWork;
 use byte_io::Bytes;
 use files_in_place::{Disk, DiskFault};
 use folders::{DiskFolder, Origin, Source};
-use program_frame::{Failure, InPlace, Reason, begin_in_place, end_in_place};
-use std::alloc::{AllocError, Global};
+use program_frame::{Beside, Failure, InPlace, Reason, begin_work, end_in_place};
+use std::alloc::Global;
 use std::io::Write;
 use std::marker::Brand;
 
@@ -44,23 +45,34 @@ fn refuse_file<J: TableWork, D: Disk>(job: &J, disk: &mut D, name: &[u8]) -> Res
     }
 }
 
-// The names of a table's file and of the file of its memos. An error where memory is refused.
-fn names_of<J: TableWork>(alloc: Global, job: &J) -> Result<(Bytes, Bytes), AllocError>
-    ensures table { IfOk result (λ names. names.0 ≡ J.stem job.now ++ extension_of_table (J.in_capitals job.now)) }
-    ensures memos { IfOk result (λ names. names.1 ≡ J.stem job.now ++ extension_of_memos (J.in_capitals job.now)) }
+// Refuses a folder that has a file of one of these names. Takes no memory.
+#[tactic(auto, using(crate::proofs::PlaceLaws::stays_both, crate::proofs::PlaceLaws::taken_at))]
+fn refuse_names<J: TableWork, D: Disk>(
+    job: &J,
+    disk: &mut D,
+    names: &[Bytes],
+) -> Result<(), J::Fault>
+    ensures free { D.meaning.keeps_promises → OnOk result (IsFree names.now (D.meaning.seen disk.old)) }
+    ensures exists { D.meaning.keeps_promises → IsErrOf result J.look.exists → ¬ IsFree names.now (D.meaning.seen disk.old) }
+    ensures unread { IsErrOf result J.look.unread → D.meaning.faults disk.old < D.meaning.faults disk.new }
+    ensures fault { IfErr result (IsLooking J.look J.Fault.no_memory) }
+    ensures recovered { StaysRecovered D.meaning disk.old disk.new }
+    ensures same { D.meaning.seen disk.new ≡ D.meaning.seen disk.old }
+    ensures later { D.meaning.faults disk.old ≤ D.meaning.faults disk.new }
 {
-    let in_capitals = job.in_capitals();
-    let dbf = with_extension(alloc, job.stem(), table_extension(in_capitals))?;
-    let dbt = with_extension(alloc, job.stem(), memos_extension(in_capitals))?;
-    Ok((dbf, dbt))
+    for name in names {
+        match refuse_file(job, disk, name.as_slice()) {
+            Ok(()) => {}
+            Err(fault) => return Err(fault),
+        }
+    }
+    Ok(())
 }
 
-// Refuses a folder that has a file of the name of the table's, or of that of its memos.
-#[tactic(auto, using(crate::proofs::PlaceLaws::stays_both))]
+// Refuses a folder that has a file of one of the work's names.
 fn refuse_files<J: TableWork, D: Disk>(alloc: Global, job: &J, disk: &mut D) -> Result<(), J::Fault>
-    ensures free { D.meaning.keeps_promises → OnOk result (IsFree (J.stem job.now) (J.in_capitals job.now) (D.meaning.seen disk.old)) }
-    ensures exists { D.meaning.keeps_promises → IsErrOf result J.look.exists
-        → ¬ IsFree (J.stem job.now) (J.in_capitals job.now) (D.meaning.seen disk.old) }
+    ensures free { D.meaning.keeps_promises → OnOk result (IsFree (J.names job.now) (D.meaning.seen disk.old)) }
+    ensures exists { D.meaning.keeps_promises → IsErrOf result J.look.exists → ¬ IsFree (J.names job.now) (D.meaning.seen disk.old) }
     ensures unread { IsErrOf result J.look.unread → D.meaning.faults disk.old < D.meaning.faults disk.new }
     ensures fault { IfErr result (IsLooking J.look J.Fault.no_memory) }
     ensures recovered { StaysRecovered D.meaning disk.old disk.new }
@@ -69,40 +81,50 @@ fn refuse_files<J: TableWork, D: Disk>(alloc: Global, job: &J, disk: &mut D) -> 
 {
     job.exists_is_of_names_alone();
     job.unread_is_of_the_folder_alone();
-    let (dbf, dbt) = match names_of(alloc, job) {
-        Ok(names) => names,
-        Err(_) => return Err(J::Fault::out_of_memory()),
-    };
-    match refuse_file(job, disk, dbf.as_slice()) {
-        Ok(()) => refuse_file(job, disk, dbt.as_slice()),
-        Err(fault) => Err(fault),
+    match job.names(alloc) {
+        Ok(names) => refuse_names(job, disk, &names),
+        Err(_) => Err(J::Fault::out_of_memory()),
     }
 }
 
-// Brings to its end what an earlier run left on a disk, and refuses a file that is there and may not be replaced.
-#[tactic(auto, using(crate::proofs::PlaceLaws::unbegun_exists, crate::proofs::PlaceLaws::looking_untried, crate::proofs::PlaceLaws::looked_tells, crate::proofs::PlaceLaws::free_same))]
-fn begin_free<J: TableWork, D: Disk + Drop>(
+// Brings to its end what an earlier run left on a disk, and refuses work beside an open day, and a file that is there and may not be
+// replaced.
+#[tactic(auto, using(crate::proofs::PlaceLaws::looking_untried, crate::proofs::PlaceLaws::looking_load, crate::proofs::PlaceLaws::looked_tells, crate::proofs::PlaceLaws::free_same))]
+fn begin_free<J: TableWork, S: Source, B: Beside, D: Disk + Drop>(
     alloc: Global,
     job: &J,
     replace: bool,
+    source: &mut S,
+    system: &B,
     disk: D,
 ) -> Result<D, InPlace<J::Report, J::Fault, D>>
     requires on_disk { D.meaning.keeps_promises → OthersAreWhole (D.meaning.seen disk) (D.meaning.is_whole disk) }
     ensures recovered { IfOk result (λ now. D.meaning.keeps_promises → IsRecovered D.meaning disk now) }
     ensures later { IfOk result (λ now. D.meaning.faults disk ≤ D.meaning.faults now) }
     ensures free { D.meaning.keeps_promises
-        → OnOk result (replace ≡ false → IsFree (J.stem job.now) (J.in_capitals job.now) (recovered (D.meaning.seen disk))) }
+        → OnOk result (replace ≡ false → IsFree (J.names job.now) (recovered (D.meaning.seen disk))) }
     ensures refused { IfErr result (λ refused. IsErr refused.ended) }
-    ensures untried { IfErr result (λ refused. IfErr refused.ended (IsUntried J.look J.Fault.no_memory replace)) }
+    ensures untried { IfErr result (λ refused. IfErr refused.ended (IsUntried J.look (J.fails job.now (S.files source.old)) J.Fault.no_memory replace)) }
     ensures exists { D.meaning.keeps_promises → IfErr result (λ refused. IsErrOf refused.ended (OfWork J.look.exists)
-        → ¬ IsFree (J.stem job.now) (J.in_capitals job.now) (recovered (D.meaning.seen disk))) }
+        → ¬ IsFree (J.names job.now) (recovered (D.meaning.seen disk))) }
     ensures unread { IfErr result (λ refused. IsErrOf refused.ended (OfWork J.look.unread) → D.meaning.faults disk < D.meaning.faults refused.disk) }
     ensures old_files { IfErr result (λ refused. D.meaning.keeps_promises → LeavesOnly D.meaning disk refused.disk (RecoversAsOneOf (D.meaning.may_leave disk))) }
     ensures tells { IfErr result (λ refused. TellsRecovery D.meaning disk refused.disk refused.ended) }
+    ensures closed { IfOk result (λ now. D.meaning.keeps_promises → has_open_day (recovered (D.meaning.seen disk)) ≡ false) }
+    ensures unmarked { D.meaning.keeps_promises → OnOk result (IsMarkAt (B.answers system.now) (recovered (D.meaning.seen disk) mark_name) false) }
+    ensures inputs { OnOk result (J.finds_day job.now (B.answers system.now) (S.files source.old) false) }
+    ensures refused_here { D.meaning.keeps_promises → has_open_day (recovered (D.meaning.seen disk)) ≡ true
+        → IfErr result (λ refused. IsErrAnd refused.ended (IsUnbegun J.Fault.no_memory)) }
+    ensures open_day { IfErr result (λ refused. IsErrOf refused.ended (Failure.Folder FolderFault.DayOpen)
+        → IsLeftForDay D.meaning (B.answers system.now) (J.finds_day job.now (B.answers system.now) (S.files source.old) true) disk refused.disk) }
+    ensures kept { S.files source.new ≡ S.files source.old }
+    ensures loads { OnOk result (S.failures source.new ≡ S.failures source.old) }
+    ensures failure { IfErr result (λ refused. IfErr refused.ended (IsUnplacedLoad J.look J.Fault.no_memory
+        (J.loads job.now (S.files source.old) (S.failures source.old) (S.failures source.new)) (S.failures source.new ≡ S.failures source.old) replace)) }
 {
     job.exists_is_of_names_alone();
     job.unread_is_of_the_folder_alone();
-    let mut disk = match begin_in_place(alloc, disk) {
+    let mut disk = match begin_work(alloc, job, source, system, disk) {
         Ok(disk) => disk,
         Err(refused) => return Err(refused),
     };
@@ -133,7 +155,7 @@ fn make_recovered<J: TableWork, S: Source, D: Disk + Drop, O: Origin<D>, E: Writ
         (HasOldFiles (D.meaning.seen disk)) (D.meaning.seen disk) disk result.disk result.ended }
     ensures fault { IfErr result.ended
         (IsPlaceFailure (J.fails job.now (S.files source.old)) J.Fault.no_memory (ComesToItsEnd (J.writes job.now (S.files source.old)))) }
-    ensures recovered { (said : FolderFault) → IsOfRecovery said → ¬ IsErrOf result.ended (OfFolder said) }
+    ensures begun { (said : FolderFault) → IsOfBeginning said → ¬ IsErrOf result.ended (OfFolder said) }
     ensures kept { S.files source.new ≡ S.files source.old }
     ensures loads { OnOk result.ended (S.failures source.new ≡ S.failures source.old) }
     ensures failure { IfErr result.ended (IsLoadFailure (J.loads job.now (S.files source.old) (S.failures source.old) (S.failures source.new))
@@ -144,26 +166,28 @@ fn make_recovered<J: TableWork, S: Source, D: Disk + Drop, O: Origin<D>, E: Writ
     end_in_place(job, source, folder, ended)
 }
 
-/// Makes a table in the folder of a disk. What an earlier run left in it is brought to its end before anything is read; the new
+/// Makes files of a table in the folder of a disk. What an earlier run left in it is brought to its end before anything is read; the new
 /// files are put in place, all of them or none, once they are written.
 ///
-/// Where no file may be replaced and one of the two names has a file, of the table's and of that of its memos, the answer is
-/// [`TableWork::exists`] and nothing is written; [`TableWork::unread`] where the disk fails at looking for them.
-pub fn make_in_place<J: TableWork, S: Source, D: Disk + Drop, E: Write>(
+/// Where no file may be replaced and one of the names has a file, the answer is [`TableWork::exists`] and nothing is written;
+/// [`TableWork::unread`] where the disk fails at looking for them. Where a live day is open in the folder, or in one from which the work
+/// reads, it is refused before that.
+pub fn make_in_place<J: TableWork, S: Source, B: Beside, D: Disk + Drop, E: Write>(
     alloc: Global,
     job: &J,
     replace: bool,
     source: &mut S,
+    system: &B,
     disk: D,
     err: &mut E,
 ) -> InPlace<J::Report, J::Fault, D>
     // Of the files that recovery leaves alone, all bytes are on the disk.
     requires on_disk { D.meaning.keeps_promises → OthersAreWhole (D.meaning.seen disk) (D.meaning.is_whole disk) }
-    // A table is made over no file that is there, unless it may be replaced.
+    // Nothing is made over a file that is there, unless it may be replaced.
     ensures free { D.meaning.keeps_promises
-        → OnOk result.ended (replace ≡ false → IsFree (J.stem job.now) (J.in_capitals job.now) (recovered (D.meaning.seen disk))) }
+        → OnOk result.ended (replace ≡ false → IsFree (J.names job.now) (recovered (D.meaning.seen disk))) }
     ensures exists { D.meaning.keeps_promises → IsErrOf result.ended (OfWork J.look.exists)
-        → ¬ IsFree (J.stem job.now) (J.in_capitals job.now) (recovered (D.meaning.seen disk)) }
+        → ¬ IsFree (J.names job.now) (recovered (D.meaning.seen disk)) }
     // That the folder can't be read is said only where a call of the disk has failed.
     ensures unread { IsErrOf result.ended (OfWork J.look.unread) → D.meaning.faults disk < D.meaning.faults result.disk }
     ensures ends { EndsInPlace D.meaning (J.writes job.now (S.files source.old))
@@ -176,10 +200,17 @@ pub fn make_in_place<J: TableWork, S: Source, D: Disk + Drop, E: Write>(
     ensures loads { OnOk result.ended (S.failures source.new ≡ S.failures source.old) }
     ensures failure { IfErr result.ended (IsUnplacedLoad J.look J.Fault.no_memory
         (J.loads job.now (S.files source.old) (S.failures source.old) (S.failures source.new)) (S.failures source.new ≡ S.failures source.old) replace) }
+    // That a day is open is said only where it is, and then nothing was changed but by recovery; and where it is, the work is refused.
+    ensures open_day { IsErrOf result.ended (Failure.Folder FolderFault.DayOpen)
+        → IsLeftForDay D.meaning (B.answers system.now) (J.finds_day job.now (B.answers system.now) (S.files source.old) true) disk result.disk }
+    ensures inputs { OnOk result.ended (J.finds_day job.now (B.answers system.now) (S.files source.old) false) }
+    ensures unmarked { D.meaning.keeps_promises → OnOk result.ended (IsMarkAt (B.answers system.now) (recovered (D.meaning.seen disk) mark_name) false) }
+    ensures refused { D.meaning.keeps_promises → has_open_day (recovered (D.meaning.seen disk)) ≡ true
+        → IsErrAnd result.ended (IsUnbegun J.Fault.no_memory) }
 {
     job.exists_is_of_names_alone();
     job.unread_is_of_the_folder_alone();
-    match begin_free(alloc, job, replace, disk) {
+    match begin_free(alloc, job, replace, source, system, disk) {
         // Which disk the new files begin on is picked for contracts, at `Brand`.
         Ok(disk) => make_recovered::<J, S, D, Brand, E>(alloc, job, source, disk, err),
         Err(refused) => refused,

@@ -5,18 +5,19 @@ ghost use Rattle.folders.specs.Files.{load_refusal};
 ghost use Rattle.table_maker.specs.Making.{AreFieldsIn, IsMakeFailure, IsNoList, IsUnloaded, IsWhyNotMade};
 
 use crate::fault::MakeFault;
-use crate::files::write_files;
+use crate::files::{names_of_table, write_files};
 use crate::table_work::TableWork;
+use byte_io::Bytes;
 use dbf_fields::{Day, Schema};
 use dbf_image::TableData;
 use field_list::{FieldListFault, read_field_list};
 use folders::{Folder, LoadFault, Source};
-use program_frame::{Job, Report, Work};
-use std::alloc::Global;
+use program_frame::{Beside, Failure, Job, Report, Work, refuse_open_beside};
+use std::alloc::{AllocError, Global};
 use std::io;
 use std::io::Write;
 
-/// That a table was made.
+/// That what was asked for was made.
 #[derive(Clone, Copy, Debug, PartialEq, Eq)]
 pub struct Made;
 
@@ -57,6 +58,7 @@ pub struct MakeJob<'a> {
 }
 
 impl<'a> Job for MakeJob<'a> {
+    ghost use Rattle.program_frame.specs.InputDays.{IsDayBeside};
     ghost use Rattle.table_maker.specs.Making.{is_write_fault, AreMadeFiles, IsMakeFailure, IsWhyNotMade};
 
     type Report = Made;
@@ -70,6 +72,20 @@ impl<'a> Job for MakeJob<'a> {
     ghost loads = { λ job files before after fault. IsMakeFailure files job.list.now before after fault };
 
     ghost is_unwritten = { is_write_fault };
+
+    ghost finds_day = { λ job answers files found. IsDayBeside answers job.list.now found };
+
+    fn refuse_open_day<S: Source, B: Beside>(
+        &self,
+        alloc: Global,
+        _source: &mut S,
+        system: &B,
+    ) -> Result<(), Failure<MakeFault<'a>>> {
+        match refuse_open_beside(system, alloc, self.list.as_bytes()) {
+            Ok(()) => Ok(()),
+            Err(fault) => Err(Failure::from(fault)),
+        }
+    }
 
     fn is_unwritten(fault: &MakeFault<'a>) -> bool {
         matches!(fault, MakeFault::Write)
@@ -146,19 +162,14 @@ impl<'a> Work for MakeJob<'a> {
 
 impl<'a> TableWork for MakeJob<'a> {
     ghost use Rattle.table_maker.specs.MadeTable.{make_look};
+    ghost use Rattle.table_maker.specs.Making.{names_of_table as names_by};
 
-    ghost stem = { λ job. job.stem.now };
-
-    ghost in_capitals = { λ job. job.in_capitals };
+    ghost names = { λ job. names_by job.stem.now job.in_capitals };
 
     ghost look = { make_look };
 
-    fn stem(&self) -> &[u8] {
-        self.stem
-    }
-
-    fn in_capitals(&self) -> bool {
-        self.in_capitals
+    fn names(&self, alloc: Global) -> Result<Vec<Bytes>, AllocError> {
+        names_of_table(alloc, self.stem, self.in_capitals)
     }
 
     fn exists() -> MakeFault<'a> {

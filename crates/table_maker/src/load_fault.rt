@@ -2,7 +2,7 @@
 
 ghost use Rattle.std.specs.Prelude.{◌≡◌, ◌++◌, codes, OnOk};
 ghost use Rattle.std.specs.Io.KnownBytes.{Appends};
-ghost use Rattle.table_loader.specs.FaultWords.{csv_words};
+ghost use Rattle.table_loader.specs.FaultWords.{fault_words};
 ghost use Rattle.table_reader.specs.TableFiles.{load_words, table_read_words};
 
 use crate::fault::{print_exists, print_unread, print_unwritten};
@@ -67,7 +67,7 @@ fn print_no_table<W: Write>(out: &mut W, path: &str, why: TableReadFault) -> io:
 
 // Prints the path of a text of CSV, and why it says no records of the table.
 fn print_no_records<W: Write>(out: &mut W, path: &str, why: &NamedFault) -> io::Result<()>
-    ensures text { OnOk result (Appends (W.contents out.old) (W.contents out.new) (path.now ++ (codes ": " ++ csv_words why.now.field why.now.why))) }
+    ensures text { OnOk result (Appends (W.contents out.old) (W.contents out.new) (path.now ++ (codes ": " ++ fault_words why.now))) }
 {
     out.write_all(path.as_bytes())?;
     out.write_all(b": ")?;

@@ -1,13 +1,14 @@
 //! The work of loading the records of a text of CSV after those of a table.
 
-ghost use Rattle.std.specs.Prelude.{◌≡◌, ◌≢◌, Some, Ok, IfErr, IfOk, OnOk, option_copied};
+ghost use Rattle.std.specs.Prelude.{◌≡◌, ◌≢◌, Some, Ok, true, false, IfErr, IfOk, IfSome, OnOk, option_copied};
+ghost use Rattle.program_frame.specs.InputDays.{IsClosedBeside, IsPlaceRefusal};
 ghost use Rattle.folders.specs.Files.{load_refusal, IsFileOf};
 ghost use Rattle.table_loader.specs.Loading.{csv_loaded};
 ghost use Rattle.table_reader.specs.Memos.{IsNotHad};
 ghost use Rattle.table_reader.specs.TableFiles.{IsTableAt};
-ghost use Rattle.table_maker.specs.LoadedTable.{csv_told, IsLoadedTable, IsLoadJobCount, IsLoadJobFailure, IsLoadJobFault, IsUnloadedText};
+ghost use Rattle.table_maker.specs.LoadedTable.{csv_told, HasOpenMemos, IsLoadDay, IsLoadedTable, IsLoadJobCount, IsLoadJobFailure, IsLoadJobFault, IsUnloadedText};
 
-use crate::files::write_files;
+use crate::files::{names_of_table, write_files};
 use crate::job::Made;
 use crate::load_fault::LoadJobFault;
 use crate::table_work::TableWork;
@@ -15,10 +16,10 @@ use byte_io::Bytes;
 use dbf_fields::Day;
 use dbf_image::TableData;
 use folders::{Folder, LoadFault, Source};
-use program_frame::{Job, Work};
-use std::alloc::Global;
+use program_frame::{Beside, Failure, Job, PlaceFault, Work, refuse_open_beside};
+use std::alloc::{AllocError, Global};
 use std::io::Write;
-use table_loader::{CsvFault, load_csv_named};
+use table_loader::{CsvFault, CsvForm, load_csv_named};
 use table_reader::load_table;
 
 /// The work of making a table of another one and the records of a text of CSV, which come after its own.
@@ -36,12 +37,12 @@ pub struct LoadJob<'a> {
     pub in_capitals: bool,
     /// The date that the new table tells.
     pub today: Day,
-    /// Whether a text that is too wide for its field is cut.
-    pub cut: bool,
+    /// How the text is written, and whether a text that is too wide for its field is cut.
+    pub form: CsvForm,
 }
 
 impl<'a> Job for LoadJob<'a> {
-    ghost use Rattle.table_maker.specs.LoadedTable.{is_load_write_fault, AreLoadedFiles, IsLoadJobFailure, IsWhyNotLoaded};
+    ghost use Rattle.table_maker.specs.LoadedTable.{is_load_write_fault, AreLoadedFiles, IsLoadDay, IsLoadJobFailure, IsWhyNotLoaded};
 
     type Report = Made;
 
@@ -54,6 +55,20 @@ impl<'a> Job for LoadJob<'a> {
     ghost loads = { λ job files before after fault. IsLoadJobFailure files job before after fault };
 
     ghost is_unwritten = { is_load_write_fault };
+
+    ghost finds_day = { λ job answers files found. IsLoadDay answers job found };
+
+    fn refuse_open_day<S: Source, B: Beside>(
+        &self,
+        alloc: Global,
+        _source: &mut S,
+        system: &B,
+    ) -> Result<(), Failure<LoadJobFault<'a>>> {
+        match self.refuse_open_files(alloc, system) {
+            Ok(()) => Ok(()),
+            Err(fault) => Err(Failure::from(fault)),
+        }
+    }
 
     fn is_unwritten(fault: &LoadJobFault<'a>) -> bool {
         matches!(fault, LoadJobFault::Write)
@@ -71,7 +86,33 @@ fn unread_text(path: &str, why: LoadFault) -> LoadJobFault<'_>
     }
 }
 
+/// Refuses to read the file of memos where a day is open in the folder of its path, where one is given.
+pub(crate) fn refuse_open_memos<B: Beside>(
+    system: &B,
+    alloc: Global,
+    memos: Option<&str>,
+) -> Result<(), PlaceFault>
+    ensures closed { OnOk result (IfSome (option_copied memos.entry) (IsClosedBeside (B.answers system.now))) }
+    ensures refused { IfErr result (IsPlaceRefusal (B.answers system.now) (HasOpenMemos (B.answers system.now) (option_copied memos.entry))) }
+{
+    match memos {
+        Some(memos) => refuse_open_beside(system, alloc, memos.as_bytes()),
+        None => Ok(()),
+    }
+}
+
 impl<'a> LoadJob<'a> {
+    // Refuses to read the files where a day is open in the folder of one of them.
+    #[tactic(auto, using(program_frame::proofs::InputDays::refused_on, program_frame::proofs::InputDays::refused_all, crate::proofs::LoadLaws::no_load_day))]
+    fn refuse_open_files<B: Beside>(&self, alloc: Global, system: &B) -> Result<(), PlaceFault>
+        ensures closed { OnOk result (IsLoadDay (B.answers system.now) self.now false) }
+        ensures refused { IfErr result (IsPlaceRefusal (B.answers system.now) (IsLoadDay (B.answers system.now) self.now true)) }
+    {
+        refuse_open_beside(system, alloc, self.csv.as_bytes())?;
+        refuse_open_beside(system, alloc, self.table.as_bytes())?;
+        refuse_open_memos(system, alloc, self.memos)
+    }
+
     // The text of CSV.
     fn text<S: Source>(&self, alloc: Global, source: &mut S) -> Result<Bytes, LoadJobFault<'a>>
         ensures found { IfOk result (IsFileOf (S.files source.old) self.now.csv.now) }
@@ -118,10 +159,10 @@ impl<'a> LoadJob<'a> {
         old: TableData,
         text: &[u8],
     ) -> Result<TableData, LoadJobFault<'a>>
-        ensures loaded { IfOk result (λ new. csv_loaded self.now.cut old text.now ≡ Ok new) }
+        ensures loaded { IfOk result (λ new. csv_loaded self.now.form old text.now ≡ Ok new) }
         ensures fault { IfErr result (IsUnloadedText self.now old text.now) }
     {
-        match load_csv_named(alloc, old, text, self.cut) {
+        match load_csv_named(alloc, old, text, self.form) {
             Ok(new) => Ok(new),
             Err(fault) => match fault.why {
                 CsvFault::NoMemory => Err(LoadJobFault::NoMemory),
@@ -171,19 +212,14 @@ impl<'a> Work for LoadJob<'a> {
 
 impl<'a> TableWork for LoadJob<'a> {
     ghost use Rattle.table_maker.specs.LoadedTable.{load_look};
+    ghost use Rattle.table_maker.specs.Making.{names_of_table as names_by};
 
-    ghost stem = { λ job. job.stem.now };
-
-    ghost in_capitals = { λ job. job.in_capitals };
+    ghost names = { λ job. names_by job.stem.now job.in_capitals };
 
     ghost look = { load_look };
 
-    fn stem(&self) -> &[u8] {
-        self.stem
-    }
-
-    fn in_capitals(&self) -> bool {
-        self.in_capitals
+    fn names(&self, alloc: Global) -> Result<Vec<Bytes>, AllocError> {
+        names_of_table(alloc, self.stem, self.in_capitals)
     }
 
     fn exists() -> LoadJobFault<'a> {

@@ -1,32 +1,27 @@
-//! Work that makes the files of a table.
+//! Work that makes files of a table.
 
-ghost use Rattle.std.specs.Prelude.{◌≡◌, ◌≢◌, ℕ, Bool, List, Option};
+ghost use Rattle.std.specs.Prelude.{◌≡◌, ◌≢◌, ℕ, List, Option, IfOk};
 ghost use Rattle.folders.specs.declared.named.NamedFile.{NamedFile};
 ghost use Rattle.table_maker.specs.Placing.{LookFaults};
 
+use byte_io::Bytes;
 use program_frame::Work;
+use std::alloc::{AllocError, Global};
 
-/// Work that makes the files of a table in a folder: its own and, where a field is a memo, that of its memos. Before the work it is
-/// looked whether the two names are free.
+/// Work that makes files of a table in a folder: its own with that of its memos, or that of an index. Before the work it is looked
+/// whether their names are free.
 pub trait TableWork: Work {
-    // the names of the two files without their extensions
-    ghost stem: { Self → List ℕ };
-
-    // the extensions are in capitals
-    ghost in_capitals: { Self → Bool };
+    // the names that the files may have
+    ghost names: { Self → List (List ℕ) };
 
     // what is told where a name is not free, or that is not known
     ghost look: { LookFaults Self.Fault };
 
-    /// The names of the two files without their extensions.
-    fn stem(&self) -> &[u8]
-        ensures value { result.now ≡ stem self.now };
+    /// The names that the files may have. An error where memory is refused.
+    fn names(&self, alloc: Global) -> Result<Vec<Bytes>, AllocError>
+        ensures value { IfOk result (λ made. made.items ≡ names self.now) };
 
-    /// Whether the extensions are in capitals.
-    fn in_capitals(&self) -> bool
-        ensures value { result ≡ in_capitals self.now };
-
-    /// That one of the two names has a file, which may not be replaced.
+    /// That one of the names has a file, which may not be replaced.
     fn exists() -> Self::Fault
         ensures value { result ≡ look.exists };
 

@@ -77,7 +77,7 @@ path_of_fault path memos (NoTable why) = path
 
 -- why the file of a path was not loaded; where its folder is not recovered, also what to do
 abbrev pub load_words : List ℕ → LoadFault → List ℕ
-load_words path load.CannotRead = codes "cannot read"
+load_words path load.CannotRead = codes "cannot read: is it there, a file, and may it be read?"
 load_words path load.Unrecovered = codes "the folder is not recovered: start with --out " ++ folder_of_path path
 load_words path load.NoMemory = codes "out of memory"
 

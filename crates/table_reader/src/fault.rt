@@ -58,7 +58,9 @@ pub fn print_load<W: Write>(out: &mut W, path: &str, why: LoadFault) -> io::Resu
     ensures text { OnOk result (Appends (W.contents out.old) (W.contents out.new) (load_words path.now why)) }
 {
     match why {
-        LoadFault::CannotRead => out.write_all(b"cannot read"),
+        LoadFault::CannotRead => out.write_all(
+            b"cannot read: is it there, a file, and may it be read?",
+        ),
         LoadFault::Unrecovered => print_unrecovered(out, folder_of(path.as_bytes())),
         LoadFault::NoMemory => out.write_all(b"out of memory"),
     }

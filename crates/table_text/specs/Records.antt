@@ -1,5 +1,5 @@
 -- The text of a table: a line of headings, and a line for each record that is shown.
-use Rattle.std.specs.Prelude.{ℕ, Bool, List, [], ◌∷◌, ◌++◌, Option, if◌then◌else◌}
+use Rattle.std.specs.Prelude.{ℕ, Bool, ◌&&◌, nat_lt, List, [], ◌∷◌, ◌++◌, length, codes, Option, if◌then◌else◌}
 use Rattle.std.specs.List.{flat_map}
 use Rattle.std.specs.Fmt.{decimal}
 use Rattle.dbf_fields.specs.declared.field.Field.{Field}
@@ -34,10 +34,21 @@ heading_line table shown memos = heading_with (number_width table) (column_width
 abbrev pub record_line : Table → List ℕ → MemoForm → ℕ → List ℕ
 record_line table shown memos number = line_with (number_width table) (column_widths table shown memos) memos table number
 
--- the headings, and the line of each record of these numbers
-abbrev pub shown_text : Table → List ℕ → MemoForm → List ℕ
-shown_text table shown memos = heading_line table shown memos ++ flat_map (record_line table shown memos) shown
+-- the first record that is asked for comes after the last one of the table, and is not the first of all
+abbrev pub is_beyond : Table → Selection → Bool
+is_beyond table selection = nat_lt 1 selection.first && nat_lt (length table.rows) selection.first
 
--- a table as people read it: the headings, and the line of each record that is shown, in the order in which they are
+-- the line that says how many records there are
+abbrev pub count_line : ℕ → List ℕ
+count_line count = codes "records of the table: " ++ (decimal count ++ LF ∷ [])
+
+-- that line, where all records that are asked for come after the last one
+abbrev pub beyond_text : Table → Selection → List ℕ
+beyond_text table selection = if is_beyond table selection then count_line (length table.rows) else []
+
+-- the text of a table: the headings, and the line of each record that is shown, in the order in which they are; or how many records
+-- there are
 abbrev pub records_text : Table → Option (List ℕ) → Selection → MemoForm → List ℕ
-records_text table order selection memos = shown_text table (selected table order selection) memos
+records_text table order selection memos =
+    let shown = selected table order selection in
+    (heading_line table shown memos ++ beyond_text table selection) ++ flat_map (record_line table shown memos) shown

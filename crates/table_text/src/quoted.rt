@@ -1,14 +1,12 @@
 //! Bytes between quotes.
 
 ghost use Rattle.std.specs.Prelude.{◌≡◌, ◌++◌, Some, OnOk, OnErr};
-ghost use Rattle.byte_io.specs.Output.{Puts};
 ghost use Rattle.byte_io.specs.Sink.{IsFront};
 ghost use Rattle.table_text.specs.Quoted.{between_quotes, byte_between_quotes};
 ghost use Rattle.table_text.specs.ShownByte.{bytes_shown};
 
 use crate::format::{BACKSLASH, QUOTE};
 use crate::shown_byte::{ShownByte, shown};
-use byte_io::{ByteSink, SinkWriter};
 use std::alloc::AllocError;
 
 // What is shown of a byte that stands between quotes.
@@ -35,15 +33,4 @@ pub fn append_between_quotes(text: &mut Vec<u8>, bytes: &[u8]) -> Result<(), All
     }
     text.push(QUOTE)?;
     Ok(())
-}
-
-/// Puts bytes between quotes, as [`append_between_quotes`] appends them.
-pub fn put_between_quotes<S: ByteSink>(out: &mut SinkWriter<'_, S>, bytes: &[u8])
-    ensures put { Puts out.old (between_quotes bytes.now) out.new }
-{
-    out.put(&[QUOTE]);
-    for byte in bytes {
-        out.put(shown_between_quotes(*byte).as_slice());
-    }
-    out.put(&[QUOTE]);
 }

@@ -1,9 +1,9 @@
 //! The records of a table as text.
 
-ghost use Rattle.std.specs.Prelude.{◌≡◌, length, option_copied, IfOk, OnOk, OnErr};
+ghost use Rattle.std.specs.Prelude.{◌≡◌, ◌++◌, length, option_copied, IfOk, OnOk, OnErr};
 ghost use Rattle.byte_io.specs.Sink.{grown, IsFront, Rises};
 ghost use Rattle.table_text.specs.Csv.{csv_text};
-ghost use Rattle.table_text.specs.Records.{heading_with, records_text};
+ghost use Rattle.table_text.specs.Records.{beyond_text, heading_with, is_beyond as comes_after, records_text};
 
 use crate::columns::{NUMBER_HEADING, append_aligned, append_names, number_width};
 use crate::csv::append_csv_heading;
@@ -36,9 +36,35 @@ fn heading(
     Ok(line)
 }
 
+// Whether the first record that is asked for comes after the last one.
+fn is_beyond(table: &TableData, selection: Selection) -> bool
+    ensures value { result ≡ comes_after table.now selection }
+{
+    selection.first > 1 && selection.first > table.record_count()
+}
+
+// How many records there are, after the headings, where all that are asked for come after the last one.
+fn append_beyond(
+    alloc: Global,
+    heading: &mut Vec<u8>,
+    table: &TableData,
+    selection: Selection,
+) -> Result<(), AllocError>
+    ensures ok { OnOk result (heading.new.items ≡ heading.old.items ++ beyond_text table.now selection) }
+{
+    if is_beyond(table, selection) {
+        let count = table.record_count();
+        let line = format!(in alloc; "records of the table: {count}")?;
+        heading.extend_from_slice(line.as_bytes())?;
+        heading.push(LF)?;
+    }
+    Ok(())
+}
+
 /// Writes a table as people read it: a line of headings, and a line for each record that is shown, with its number,
 /// `*` where it is marked as deleted, and its cells. Records are shown in the order of the numbers that are given; one that
-/// is no record's is passed over. Where none are given they are shown by their numbers.
+/// is no record's is passed over. Where none are given they are shown by their numbers. Where all records that are asked for come after
+/// the last one a line says how many there are.
 ///
 /// Columns are as wide as what is shown in them, but the last isn't filled up with blanks. Record numbers and numbers
 /// stand at the right. Dates are shown as MM/DD/YY. Of a memo `memos` says how much is shown. A byte that is no printable
@@ -68,7 +94,8 @@ pub fn write_records<S: ByteSink>(
 {
     let number_width = number_width(alloc, table)?;
     let widths = column_widths(alloc, table, order, selection, memos)?;
-    let heading = heading(alloc, table.schema().fields(), number_width, &widths)?;
+    let mut heading = heading(alloc, table.schema().fields(), number_width, &widths)?;
+    append_beyond(alloc, &mut heading, table, selection)?;
     let format = LineFormat::Columns(ColumnLayout {
         number_width,
         widths,

@@ -72,9 +72,9 @@ fn memo_part(memos: MemoForm, text: &[u8]) -> &[u8]
     }
 }
 
-/// The bytes without the blanks at their end.
+/// The bytes without the blanks at their end. Takes no memory.
 #[tactic(auto, unfolding(crate::specs::Shown::trimmed_end))]
-pub(crate) fn trimmed_end(bytes: &[u8]) -> &[u8]
+pub fn trimmed_end(bytes: &[u8]) -> &[u8]
     ensures value { result.now ≡ without_end bytes.now }
 {
     let mut text = bytes;

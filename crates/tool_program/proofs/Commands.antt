@@ -1,7 +1,9 @@
 -- Options and sub-commands as `clap` is told them.
 use Rattle.std.proofs.Common.{◌≡◌, ◌∙◌, ap, ap₂, refl, Bool, true, false, not, ◌&&◌, List, Option, Result, IfErr, IsErrAnd, subst, sym}
 use Rattle.clap.specs.Walk.{is_empty}
-use Rattle.clap.specs.Words.{App, AddsSubcommand, HasMatchesOf, Row, Text, app_of, is_simple, subcommand_of, subcommand_rows_of, kind_of, takes, with_subcommand}
+use Rattle.clap.specs.Words.{App, AddsArg, AddsSubcommand, HasMatchesOf, Row, Rule, Text, app_of, is_simple, kind_of, rule_of, takes}
+use Rattle.clap.specs.Words.{subcommand_of, subcommand_rows_of, with_rule, with_subcommand}
+use Rattle.clap.specs.declared.builder.arg.Arg.{Arg}
 use Rattle.clap.specs.declared.builder.command.Command.{Command}
 use Rattle.clap.specs.declared.builder.command.Command.TheViews.{out-Command}
 use Rattle.clap.specs.declared.parser.matches.ArgMatches.{ArgMatches}
@@ -32,6 +34,12 @@ pub added : (old sub new : Command) (before a : App) → AddsSubcommand old sub 
     → app_of new ≡ with_subcommand before a.top
 added old sub new before a h was e p =
     h.shape (is_local sub (ap (λ (a : App). a.top.is_plain) e ∙ p)) ∙ ap₂ with_subcommand was (ap (λ (a : App). a.top) e)
+
+-- two options are added, one after the other
+pub two_rules : (old first new : Command) (a b : Arg) (r s : Rule) → AddsArg old a first → AddsArg first b new → a.global ≡ false → b.global ≡ false
+    → rule_of a ≡ r → rule_of b ≡ s → app_of new ≡ with_rule (with_rule (app_of old) r) s
+two_rules old first new a b r s h k la lb e f =
+    k.shape lb ∙ ap₂ with_rule (h.shape la ∙ ap (λ (rule : Rule). with_rule (app_of old) rule) e) f
 
 tool_is_simple : is_simple tool_app ≡ true
 unfolding clap_on_literals

@@ -2,9 +2,10 @@
 pub mod CheckLaws
 pub mod Commands
 pub mod DiffLaws
+pub mod JournalLaws
 pub mod LoadLaws
+pub mod IndexLaws
 pub mod MadeLaws
-pub mod PairingLaws
 pub mod Printing
 pub mod Reading
 pub mod RunAnswers

@@ -1,5 +1,5 @@
 -- Records that are loaded for a command line.
-use Rattle.std.proofs.Common.{◌≡◌, ◌∙◌, sym, refl, subst, inl, inr, List, Option, Result, Ok, Err, IfErr}
+use Rattle.std.proofs.Common.{◌≡◌, ◌∙◌, sym, refl, subst, inl, inr, List, Option, Result, Ok, Err, IfErr, IfOk}
 use Rattle.program_frame.specs.declared.ending.Failure.{Failure}
 use Rattle.program_frame.specs.declared.ending.Failure.TheVariants.{BadDate, Work as OfWork, Folder as OfFolder}
 use Rattle.table_maker.specs.declared.load_fault.LoadJobFault.{LoadJobFault}
@@ -9,6 +9,8 @@ use Rattle.tool_program.specs.declared.fault.ToolFault.{ToolFault}
 use Rattle.tool_program.specs.declared.fault.ToolFault.TheVariants as tool
 use Rattle.tool_program.specs.declared.asked.LoadOptions.{LoadOptions}
 use Rattle.tool_program.specs.declared.report.ToolReport.{ToolReport}
+use Rattle.tool_program.specs.declared.report.ToolReport.TheVariants.{Differ, Good, Loaded, NotOpened, Refused, Unread}
+use Rattle.tool_program.specs.Answers.{IsOfLoaded}
 use Rattle.tool_program.specs.Faults.{TellsUnreadFolder}
 use Rattle.tool_program.specs.TableLoaded.{told_of_load, IsBadLoad, IsWhyNoTableLoaded}
 
@@ -43,6 +45,8 @@ load_told_unread (OfWork (load.Text path fault)) e = e
 -- the options say no work, but not so
 pub bad_load_unread : (options : LoadOptions) (fault : ToolFault) → IsBadLoad options fault → TellsUnreadFolder fault → ⊥
 bad_load_unread options tool.BadOut bad e = e
+bad_load_unread options tool.BadDates bad e = e
+bad_load_unread options tool.BadSeparator bad e = e
 bad_load_unread options (tool.Load BadDate) bad e = cc
 bad_load_unread options fault bad e = bad
 
@@ -58,6 +62,15 @@ told_output (OfWork load.Write) e = absurd cc
 told_output (OfWork (load.Csv path fault)) e = absurd cc
 told_output (OfWork (load.Old path fault)) e = absurd cc
 told_output (OfWork (load.Text path fault)) e = absurd cc
+
+pub loaded_unread : (told : Result ToolReport ToolFault) → IfOk told IsOfLoaded → told ≡ Ok Unread → ⊥
+loaded_unread (Ok Good) loaded e = absurd loaded
+loaded_unread (Ok (Loaded text)) loaded e = absurd cc
+loaded_unread (Ok NotOpened) loaded e = absurd loaded
+loaded_unread (Ok Differ) loaded e = absurd loaded
+loaded_unread (Ok Refused) loaded e = absurd loaded
+loaded_unread (Ok Unread) loaded e = absurd loaded
+loaded_unread (Err why) loaded e = absurd cc
 
 pub loaded_output : (files : Option (List NamedFile)) (options : LoadOptions) (told : Result ToolReport ToolFault) → IfErr told (IsWhyNoTableLoaded files options) → told ≡ Err tool.Output → ⊥
 loaded_output files options (Ok report) why e = absurd cc

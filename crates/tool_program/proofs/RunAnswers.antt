@@ -1,189 +1,69 @@
--- The answers of a run are of the kinds of their lines.
-use Rattle.std.proofs.Common.{◌≡◌, ◌≢◌, ℕ, ◌+◌, ◌==◌, Bool, true, false, cond, List, [], ◌∷◌, ◌++◌, map, Option, refl, ap, sym, ◌∙◌, subst, Contains}
+-- The journal of a run, as its answers are shown.
+use Rattle.std.proofs.Common.{◌≡◌, ◌∙◌, ◌==◌, ℕ, Bool, true, false, cond, List, [], ◌∷◌, map, Option, Some, refl, ap, sym}
 use Rattle.std.specs.Prelude.{filter}
-use Rattle.std.specs.List.{AllByRecursion}
-use mathlib.Core.Logic.{inl, inr}
-use Rattle.answer_pairs.specs.declared.fault.PairFault.{PairFault}
-use Rattle.answer_pairs.specs.declared.fault.PairFault.TheVariants.{NotTogether, TwoWays, NoMemory}
-use Rattle.answer_pairs.specs.Kinds.{kind_of_line}
-use Rattle.answer_pairs.specs.Pairs.{AskedLine, asked_line, asked_lines, asked_kinds, MayBeAnswers, PairedLine, paired, ArePairs}
-use Rattle.answer_pairs.specs.Runs.{answer_file_text, AreAnswersTo, FitsCommand, HaveOneLine}
-use Rattle.answer_pairs.proofs.OneLineLaws.{no_other_way}
-use Rattle.answer_pairs.proofs.RunLaws.{paired_so}
-use Rattle.answer_pairs.proofs.StepLaws.{step_fits, status_fits}
+use Rattle.byte_io.specs.Sink.{grown}
 use Rattle.catalogue_core.specs.declared.entry.Entry.{Entry}
-use Rattle.catalogue_core.specs.Replay.{Opened, LegalFrom, IsLegal, start}
-use Rattle.catalogue_core.specs.State.{State}
-use Rattle.catalogue_core.specs.Step.{step}
 use Rattle.dbf_fields.specs.declared.day.Day.{Day}
+use Rattle.entry_text.specs.Layout.{entries_text}
 use Rattle.folders.specs.declared.named.NamedFile.{NamedFile}
+use Rattle.folders.specs.Files.{IsFileOf}
+use Rattle.journal_file.specs.declared.cutting.JournalFault.{JournalFault}
+use Rattle.journal_file.specs.declared.cutting.JournalFault.TheVariants as why_none
+use Rattle.journal_file.specs.WholeText.{IsNotWhole, WholeJournal}
+use Rattle.journal_file.proofs.TextLaws.{whole_one}
 use Rattle.office_run.specs.declared.counts.CommandCounts.{CommandCounts}
-use Rattle.office_run.specs.AnswerFiles.{without_rows}
-use Rattle.office_run.specs.Reports.{Shown, answered, status, meaning_of, receipts_of, answers_of, shown_line, AreShown, IsReport}
+use Rattle.office_run.specs.Closing.{run_files}
+use Rattle.office_run.specs.JournalFile.{told_run, IsJournalText}
 use Rattle.office_run.specs.Served.{IsServed}
-use Rattle.office_run.proofs.AnswerLaws.{all_answered, all_contained}
-use Rattle.shared_catalogue.specs.declared.receipt.Receipt.{Receipt}
-use Rattle.shared_catalogue.specs.OwnCalls.{receipt_of, of_station}
-use Rattle.station_lines.specs.declared.script.format.TheConstants.{LF}
-use Rattle.station_lines.specs.declared.script.line.Line.{Line}
-use Rattle.station_lines.specs.declared.script.line.Line.TheVariants.{Blank}
-use Rattle.station_lines.specs.Script.Meaning.{Means}
-use Rattle.station_lines.specs.Script.Reading.{read}
-use Rattle.station_lines.proofs.ScriptLaws.MeaningLaws.{means_alone}
-use Rattle.tool_program.specs.Pairing.{IsNoPairing}
-use Rattle.tool_program.specs.RunAnswers.{text_of_shown, lines_of_shown, AreShownFor, AreOwnPairs, BelongTogether, AllHaveOwnAnswers, ShowsOwnAnswers, NeverParted}
+use Rattle.office_run.proofs.OneOpening.{one_file}
+use Rattle.station_lines.specs.JournalLines.{line_parts}
+use Rattle.tool_program.specs.declared.asked.AnswersOptions.{AnswersOptions}
+use Rattle.tool_program.specs.JournalShown.{entries_asked, AreAnswersShown, IsNoJournal}
+use Rattle.tool_program.specs.RunAnswers.{AsksForItsOwn, NeverCalledNone, ShowsAnswersOfRun}
 
--- ---- what a station was answered
+module _ (files : Option (List NamedFile)) (setup : List ℕ) (reindex : Bool) (today : Day) (written : List NamedFile) (counts : CommandCounts)
+    (served : IsServed files setup reindex today true written counts) where
+  -- the text of the run's journal, and what it tells
+  abbrev text_of_run : IsJournalText files setup reindex served.run.history.journal (run_files today served.tables served.answers) served.text
+  text_of_run = (served.told_text refl).0
 
--- each answer may be one to its command
-abbrev AllFit : List Receipt → Type 0
-AllFit receipts = AllByRecursion (λ r. FitsCommand r.command r.answer) receipts
+  abbrev told_of_run : WholeJournal
+  told_of_run = told_run text_of_run.read reindex served.run.history.journal (run_files today served.tables served.answers)
 
-entry_fits : (s : State) (e : Entry) → e.answer ≡ (step s e.station e.command).1 → FitsCommand e.command e.answer
-entry_fits s e own = subst (FitsCommand e.command) (sym own) (step_fits s e.station e.command)
+  module _ (later : List NamedFile) (options : AnswersOptions) (there : IsFileOf (Some later) options.journal.now served.text) where
+    pub shown_of_run : (refused : Bool) (old new : Option (List ℕ)) (shown : AreAnswersShown (Some later) options refused old new)
+        → new ≡ grown old (entries_text (entries_asked shown.station options.refused_only) (map line_parts served.run.history.journal))
+    shown_of_run refused old new shown =
+        let same : served.text ≡ shown.in_file.text = one_file later options.journal.now served.text shown.in_file.text there shown.in_file.found in
+        let one : told_of_run ≡ shown.journal =
+        whole_one told_of_run shown.journal (served.told_text refl).1 shown.in_file.whole (sym text_of_run.text_is ∙ (same ∙ shown.in_file.text_is)) in
+        shown.wrote ∙ ap (λ (j : WholeJournal). grown old (entries_text (entries_asked shown.station options.refused_only) j.entries)) (sym one)
 
-one_more : (own : Bool) (e : Entry) (es : List Entry) → FitsCommand e.command e.answer → AllFit (map receipt_of es) → AllFit (map receipt_of (cond own (e ∷ es) es))
-one_more true e es fits all = (fits, all)
-one_more false e es fits all = all
+    whole_there : (text : List ℕ) → IsFileOf (Some later) options.journal.now text → IsNotWhole text → ⊥
+    whole_there text found not_whole =
+        let same : served.text ≡ text = one_file later options.journal.now served.text text there found in
+        not_whole told_of_run (served.told_text refl).1 (sym same ∙ text_of_run.text_is)
 
-own_fit : (station : ℕ) (s : State) (journal : List Entry) → LegalFrom s journal → AllFit (of_station journal station)
-own_fit station s [] legal = tt
-own_fit station s (e ∷ journal) legal =
-    one_more (e.station == station) e (filter (λ x. x.station == station) journal) (entry_fits s e legal.0)
-    (own_fit station (step s e.station e.command).0 journal legal.1)
+    pub never_none : (why : JournalFault) (text : List ℕ) → IsFileOf (Some later) options.journal.now text → IsNoJournal text why → ⊥
+    never_none why_none.Cut text found said = whole_there text found said.0
+    never_none why_none.NoJournal text found said = whole_there text found said.0
 
--- ---- what it was shown
+pub answers_of_run : (files : Option (List NamedFile)) (later : List NamedFile) (setup : List ℕ) → ShowsAnswersOfRun files later setup
+answers_of_run files later setup options reindex today written counts served there refused old new shown =
+    shown_of_run files setup reindex today written counts served later options there refused old new shown
 
--- lines that have an answer, and what was shown for them
-record AreOf (asked : List AskedLine) (shown : List Shown) : Type 0 where
-  fit : MayBeAnswers (asked_kinds asked) (lines_of_shown shown)
-  for_lines : AreShownFor asked shown
+pub never_called_none : (files : Option (List NamedFile)) (later : List NamedFile) (setup : List ℕ) → NeverCalledNone files later setup
+never_called_none files later setup options reindex today written counts served there before after why none =
+    never_none files setup reindex today written counts served later options there why none.0 none.1 none.2
 
-blank_first : (number : ℕ) (line : List ℕ) (more : List AskedLine) (shown : List Shown) → Means line Blank → AreOf more shown
-    → AreOf (asked_line number line (kind_of_line (read line)) ++ more) shown
-blank_first number line more shown blank rest =
-    subst (λ (l : Line). AreOf (asked_line number line (kind_of_line l) ++ more) shown) (sym (means_alone line Blank blank)) rest
+-- ---- a station's own
 
-shown_first : (number : ℕ) (line : List ℕ) (more : List AskedLine) (x : Shown) (xs : List Shown) → Means line (meaning_of x) → AllFit (receipts_of (x ∷ xs)) → AreOf more xs
-    → AreOf (asked_line number line (kind_of_line (meaning_of x)) ++ more) (x ∷ xs)
-shown_first number line more (answered r) xs means fits rest = record { fit = (fits.0, rest.fit); for_lines = (means, rest.for_lines) }
-shown_first number line more (status row) xs means fits rest = record { fit = (status_fits row, rest.fit); for_lines = (means, rest.for_lines) }
+one_more : (own : Bool) (e : Entry) (asked : List (ℕ × List ℕ × List ℕ)) (entries : List Entry) → asked ≡ map line_parts entries
+    → cond own (line_parts e ∷ asked) asked ≡ map line_parts (cond own (e ∷ entries) entries)
+one_more true e asked entries same = ap (λ (l : List (ℕ × List ℕ × List ℕ)). line_parts e ∷ l) same
+one_more false e asked entries same = same
 
-rest_fits : (x : Shown) (xs : List Shown) → AllFit (receipts_of (x ∷ xs)) → AllFit (receipts_of xs)
-rest_fits (answered r) xs fits = fits.1
-rest_fits (status row) xs fits = fits
-
-all_of : (number : ℕ) (lines : List (List ℕ)) (shown : List Shown) → AreShown lines shown → AllFit (receipts_of shown) → AreOf (asked_lines number lines) shown
-all_of number [] [] are fits = record { fit = tt; for_lines = tt }
-all_of number [] (x ∷ xs) are fits = absurd are
-all_of number (line ∷ lines) [] are fits = blank_first number line (asked_lines (number + 1) lines) [] are.0 (all_of (number + 1) lines [] are.1 fits)
-all_of number (line ∷ lines) (x ∷ xs) (inl (blank, are)) fits =
-    blank_first number line (asked_lines (number + 1) lines) (x ∷ xs) blank (all_of (number + 1) lines (x ∷ xs) are fits)
-all_of number (line ∷ lines) (x ∷ xs) (inr (means, are)) fits =
-    subst (λ (l : Line). AreOf (asked_line number line (kind_of_line l) ++ asked_lines (number + 1) lines) (x ∷ xs)) (sym (means_alone line (meaning_of x) means))
-    (shown_first number line (asked_lines (number + 1) lines) x xs means fits (all_of (number + 1) lines xs are (rest_fits x xs fits)))
-
--- ---- the answer file
-
-line_of_text : (x : Shown) → shown_line x ≡ text_of_shown x ++ LF ∷ []
-line_of_text (answered r) = refl
-line_of_text (status row) = refl
-
-file_is : (shown : List Shown) → answers_of shown ≡ answer_file_text (map text_of_shown shown)
-file_is [] = refl
-file_is (x ∷ xs) =
-    ap (λ (l : List ℕ). l ++ answers_of xs) (line_of_text x) ∙ ap (λ (l : List ℕ). (text_of_shown x ++ LF ∷ []) ++ l) (file_is xs)
-
-answers_alone : (shown : List Shown) → without_rows shown ≡ map answered (receipts_of shown)
-answers_alone [] = refl
-answers_alone (answered r ∷ xs) = ap (λ (l : List Shown). answered r ∷ l) (answers_alone xs)
-answers_alone (status row ∷ xs) = answers_alone xs
-
--- ---- a report
-
-module _ (opened : Opened) (journal : List Entry) (station : ℕ) (script answers : List ℕ) (legal : IsLegal opened journal) (report : IsReport opened journal station script answers) where
-  -- the lines of the script that have an answer, and the texts of what was shown for them
-  abbrev asked : List AskedLine
-  asked = asked_lines 1 report.for_script.0
-
-  abbrev texts : List (List ℕ)
-  texts = map text_of_shown report.shown
-
-  -- each line with its own
-  abbrev pub pairs_of : List PairedLine
-  pairs_of = paired asked (lines_of_shown report.shown)
-
-  are_of : AreOf asked report.shown
-  are_of = all_of 1 report.for_script.0 report.shown report.for_script.2 (subst AllFit (sym report.own) (own_fit station (start opened) journal legal))
-
-  answers_to : AreAnswersTo script answers asked texts
-  answers_to = record {
-    of_script = (report.for_script.0, report.for_script.1, refl);
-    may_be = are_of.fit;
-    written = report.lines ∙ file_is report.shown;
-  }
-
-  abbrev own_pairs : AreOwnPairs opened journal station script pairs_of
-  own_pairs = record {
-    asked = asked;
-    of_script = (report.for_script.0, report.for_script.1, refl);
-    shown = report.shown;
-    for_lines = are_of.for_lines;
-    entries = answers_alone report.shown ∙ ap (map answered) report.own;
-    rows = report.rows;
-    own = refl;
-  }
-
-  pub are_pairs : ArePairs script answers pairs_of
-  are_pairs = paired_so script answers asked texts answers_to
-
-  pub alone_pairs : HaveOneLine texts → (other : List PairedLine) → ArePairs script answers other → other ≡ pairs_of
-  alone_pairs = no_other_way script answers asked texts answers_to
-
-  pub belong : BelongTogether opened journal station script answers
-  belong = record {
-    pairs = pairs_of;
-    own = own_pairs;
-    are = are_pairs;
-    only = λ found only. subst (AreOwnPairs opened journal station script) (only.alone pairs_of are_pairs) own_pairs;
-    alone = alone_pairs;
-  }
-
--- ---- a whole run
-
-module _ (files : Option (List NamedFile)) (setup : List ℕ) (reindex : Bool) (today : Day) (journal : Bool) (written : List NamedFile) (counts : CommandCounts)
-    (served : IsServed files setup reindex today journal written counts) where
-  pub all_belong : AllHaveOwnAnswers written served.run.history served.run.read.scripts
-  all_belong i low =
-      let has = all_answered files setup reindex today journal written counts served (Contains written) (all_contained written) i low in (
-        has.0,
-        has.1,
-        record {
-          text = has.2.text;
-          file = has.2.file;
-          together = belong served.run.history.opened served.run.history.journal (i + 1) has.0 has.2.text served.run.legal has.2.report;
-        },
-      )
-
--- ---- what is shown of it
-
-module _ (opened : Opened) (journal : List Entry) (station : ℕ) (legal : IsLegal opened journal) where
-  pub own_shown : ShowsOwnAnswers opened journal station
-  own_shown files options refused old new shown report =
-      let together = belong opened journal station shown.script shown.answers legal report in
-      together.only shown.pairs (record { are = shown.are; alone = shown.alone })
-
-  parted_why : (script answers : List ℕ) (fault : PairFault) → IsNoPairing script answers fault → (report : IsReport opened journal station script answers)
-      → (fault ≢ NotTogether) × (HaveOneLine (map text_of_shown report.shown) → fault ≡ NoMemory)
-  parted_why script answers NotTogether none report =
-      absurd (none (pairs_of opened journal station script answers legal report) (are_pairs opened journal station script answers legal report))
-  parted_why script answers TwoWays two report = (
-    λ e. cc,
-    λ each.
-        let alone = alone_pairs opened journal station script answers legal report each in
-        absurd (two.differ (alone two.one two.is_one ∙ sym (alone two.other two.is_other))),
-  )
-  parted_why script answers NoMemory none report = (λ e. cc, λ each. refl)
-
-  pub never_parted : NeverParted opened journal station
-  never_parted files options fault parted report = parted_why parted.script parted.answers fault parted.no_pairing report
+pub asks_for_its_own : (journal : List Entry) (station : ℕ) → AsksForItsOwn journal station
+asks_for_its_own [] station refused_only = refl
+asks_for_its_own (e ∷ es) station refused_only =
+    one_more (e.station == station) e _ (filter (λ (x : Entry). x.station == station) es) (asks_for_its_own es station refused_only)

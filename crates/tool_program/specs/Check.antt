@@ -1,5 +1,5 @@
 -- A setup that is checked.
-use Rattle.std.specs.Prelude.{◌≡◌, ◌≢◌, ◌⊎◌, ℕ, Bool, true, false, List, ◌++◌, Option, Some, None, is_none, IfSome, Result, Ok, Err}
+use Rattle.std.specs.Prelude.{◌≡◌, ◌≢◌, ◌⊎◌, ℕ, Bool, true, false, not, List, ◌++◌, Option, Some, None, is_none, IfSome, Result, Ok, Err}
 use Rattle.byte_io.specs.Sink.{grown}
 use Rattle.catalogue_core.specs.declared.opening.OpenFault.{OpenFault}
 use Rattle.catalogue_core.specs.Replay.{Opened}
@@ -7,6 +7,7 @@ use Rattle.folders.specs.declared.named.NamedFile.{NamedFile}
 use Rattle.folders.specs.declared.source.LoadFault.{LoadFault}
 use Rattle.folders.specs.declared.source.LoadFault.TheVariants as load
 use Rattle.folders.specs.Files.{IsFileOf}
+use Rattle.station_lines.specs.Script.Reading.{is_empty}
 use Rattle.station_lines.specs.declared.setup.entry.SetupEntry.{SetupEntry}
 use Rattle.station_lines.specs.Setup.{HasNextEntry, IsSetup}
 use Rattle.setup_check.specs.declared.finding.Finding.{Finding}
@@ -84,7 +85,7 @@ pub record IsTold (files : Option (List NamedFile)) (loads : Loads) (path : List
   pub opening : IsOpening files path fault
   pub first : IfSome fault (IsFirstFault entries reads)
   pub answer : opens ≡ is_none fault
-  pub wrote : new ≡ grown old ((((setup_lines entries findings ++ kept_lines entries) ++ scripts) ++ days) ++ verdict_line fault)
+  pub wrote : new ≡ grown old ((((setup_lines entries findings ++ kept_lines entries) ++ scripts) ++ days) ++ verdict_line (not (is_empty days)) fault)
 
 -- what is told of the bad line of this number says why it is; it is nothing where memory was refused for it
 abbrev pub IsReasonOf : List ℕ → ℕ → Option (List ℕ) → Type 0

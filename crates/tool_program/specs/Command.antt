@@ -41,9 +41,6 @@ csv_app = with_rule (with_record_choice (with_table_paths (new_app (codes "csv")
 abbrev pub check_app : App
 check_app = with_rule (with_rule (new_app (codes "check")) (path_rule (codes "setup"))) (flag_rule (codes "lines"))
 
-abbrev pub tree_app : App
-tree_app = with_rule (new_app (codes "tree")) (path_rule (codes "index"))
-
 abbrev pub make_app : App
 make_app =
     with_rule (with_rule (with_rule (with_rule (new_app (codes "make")) (path_rule (codes "list"))) (required_rule (codes "out"))) (required_rule (codes "today")))
@@ -57,8 +54,19 @@ with_csv_paths app = with_rule (with_rule (with_rule app (path_rule (codes "csv"
 abbrev pub with_new_table_path : App → App
 with_new_table_path app = with_rule (with_rule app (required_rule (codes "out"))) (required_rule (codes "today"))
 
+-- how a text of CSV is written
+abbrev pub with_csv_form : App → App
+with_csv_form app = with_rule (with_rule app (option_rule (codes "dates"))) (option_rule (codes "separator"))
+
 abbrev pub load_app : App
-load_app = with_rule (with_rule (with_new_table_path (with_csv_paths (new_app (codes "load")))) (flag_rule (codes "cut"))) (flag_rule (codes "replace"))
+load_app =
+    with_rule (with_rule (with_csv_form (with_new_table_path (with_csv_paths (new_app (codes "load"))))) (flag_rule (codes "cut")))
+    (flag_rule (codes "replace"))
+
+abbrev pub index_app : App
+index_app =
+    with_rule (with_rule (with_rule (with_table_paths (new_app (codes "index"))) (required_rule (codes "on"))) (required_rule (codes "out")))
+    (flag_rule (codes "replace"))
 
 -- the paths of two tables, and of the files of their memos
 abbrev pub with_two_table_paths : App → App
@@ -71,7 +79,7 @@ diff_app = with_rule (with_two_table_paths (new_app (codes "diff"))) (option_rul
 
 abbrev pub answers_app : App
 answers_app =
-    with_rule (with_rule (with_rule (new_app (codes "answers")) (path_rule (codes "script"))) (path_rule (codes "answers"))) (flag_rule (codes "refused"))
+    with_rule (with_rule (with_rule (new_app (codes "answers")) (path_rule (codes "journal"))) (option_rule (codes "station"))) (flag_rule (codes "refused"))
 
 -- the program, which wants a sub-command
 abbrev pub bare_app : App
@@ -81,13 +89,15 @@ bare_app = record (program_app (codes "table_tool")) {
 
 -- the program and its sub-commands that show and check
 abbrev pub shown_app : App
-shown_app =
-    with_subcommand (with_subcommand (with_subcommand (with_subcommand (with_subcommand bare_app show_app.top) fields_app.top) csv_app.top) check_app.top)
-    tree_app.top
+shown_app = with_subcommand (with_subcommand (with_subcommand (with_subcommand bare_app show_app.top) fields_app.top) csv_app.top) check_app.top
+
+-- the same and those that make tables and indexes
+abbrev pub made_app : App
+made_app = with_subcommand (with_subcommand (with_subcommand shown_app make_app.top) load_app.top) index_app.top
 
 -- the program, its sub-commands and their options
 abbrev pub tool_app : App
-tool_app = with_subcommand (with_subcommand (with_subcommand (with_subcommand shown_app make_app.top) load_app.top) diff_app.top) answers_app.top
+tool_app = with_subcommand (with_subcommand made_app diff_app.top) answers_app.top
 
 -- what the words of a command line ask for, of which the first is the program's name
 abbrev pub IsAskedIn : List Text → Asked → Type 0

@@ -9,9 +9,8 @@ use Rattle.table_reader.specs.declared.fault.TableReadFault.TheVariants as read
 use Rattle.table_reader.specs.TableFiles.{is_image_no_memory, is_load_no_memory}
 use Rattle.table_text.specs.declared.fault.TextFault.{TextFault}
 use Rattle.table_text.specs.declared.fault.TextFault.TheVariants as text
-use Rattle.answer_pairs.specs.declared.fault.PairFault.TheVariants as pairs
-use Rattle.tool_program.specs.declared.pairing.AnswersFault.{AnswersFault}
-use Rattle.tool_program.specs.declared.pairing.AnswersFault.TheVariants as answers
+use Rattle.tool_program.specs.declared.journal.AnswersFault.{AnswersFault}
+use Rattle.tool_program.specs.declared.journal.AnswersFault.TheVariants as answers
 use Rattle.tool_program.specs.declared.checking.CheckFault.{CheckFault}
 use Rattle.tool_program.specs.declared.checking.CheckFault.TheVariants as check
 use Rattle.tool_program.specs.declared.comparing.CompareFault.{CompareFault}
@@ -26,10 +25,12 @@ use Rattle.tool_program.specs.declared.showing.ShowFault.TheVariants as show
 use Rattle.program_frame.specs.declared.ending.Failure.TheVariants as failure
 use Rattle.program_frame.specs.Endings.{failure_status, failure_words}
 use Rattle.table_maker.specs.declared.fault.MakeFault.TheVariants as make
+use Rattle.table_maker.specs.declared.index_fault.IndexJobFault.TheVariants as index
 use Rattle.table_maker.specs.declared.load_fault.LoadJobFault.TheVariants as load
+use Rattle.table_maker.specs.IndexFaults.{index_job_words, index_status}
 use Rattle.table_maker.specs.LoadFaults.{load_job_words, load_status}
 use Rattle.table_maker.specs.MakeFaults.{make_status, make_words}
-use Rattle.tool_program.specs.Reasons.{check_reason, key_reason, pair_reason, show_reason}
+use Rattle.tool_program.specs.Reasons.{check_reason, journal_reason, key_reason, show_reason}
 
 -- ---- of which file
 
@@ -72,15 +73,20 @@ is_no_memory (show.Text text.Sink) = false
 -- what is said of a fault of the file of a path: with the path, except out of memory and a failure of the output
 abbrev pub IsToolFaultOf : ShowFault → List ℕ → ToolFault → Type 0
 IsToolFaultOf fault path tool.BadRange = ⊥
+IsToolFaultOf fault path tool.BadStation = ⊥
 IsToolFaultOf fault path tool.NoMemory = is_no_memory fault ≡ true
 IsToolFaultOf fault path (tool.Table told why) = (told.now ≡ path) × (why ≡ fault) × (is_no_memory fault ≡ false)
 IsToolFaultOf fault path (tool.Setup told why) = ⊥
 IsToolFaultOf fault path tool.Output = fault ≡ show.Text text.Sink
 IsToolFaultOf fault path tool.BadOut = ⊥
+IsToolFaultOf fault path tool.BadIndexOut = ⊥
+IsToolFaultOf fault path tool.BadDates = ⊥
+IsToolFaultOf fault path tool.BadSeparator = ⊥
 IsToolFaultOf fault path (tool.Make why) = ⊥
-IsToolFaultOf fault path (tool.Pairs told why) = ⊥
+IsToolFaultOf fault path (tool.Journal told why) = ⊥
 IsToolFaultOf fault path (tool.Key told why) = ⊥
 IsToolFaultOf fault path (tool.Load why) = ⊥
+IsToolFaultOf fault path (tool.Index why) = ⊥
 
 -- the fault of a setup is told with its path
 abbrev pub IsSetupTold : CheckFault → Type 0
@@ -91,15 +97,20 @@ IsSetupTold fault = Unit {0}
 -- what is said of a fault of the setup of a path: with the path, except out of memory and a failure of the output
 abbrev pub IsToolFaultOfSetup : CheckFault → List ℕ → ToolFault → Type 0
 IsToolFaultOfSetup fault path tool.BadRange = ⊥
+IsToolFaultOfSetup fault path tool.BadStation = ⊥
 IsToolFaultOfSetup fault path tool.NoMemory = fault ≡ check.NoMemory
 IsToolFaultOfSetup fault path (tool.Table told why) = ⊥
 IsToolFaultOfSetup fault path (tool.Setup told why) = (told.now ≡ path) × (why ≡ fault) × IsSetupTold fault
 IsToolFaultOfSetup fault path tool.Output = fault ≡ check.Sink
 IsToolFaultOfSetup fault path tool.BadOut = ⊥
+IsToolFaultOfSetup fault path tool.BadIndexOut = ⊥
+IsToolFaultOfSetup fault path tool.BadDates = ⊥
+IsToolFaultOfSetup fault path tool.BadSeparator = ⊥
 IsToolFaultOfSetup fault path (tool.Make why) = ⊥
-IsToolFaultOfSetup fault path (tool.Pairs told why) = ⊥
+IsToolFaultOfSetup fault path (tool.Journal told why) = ⊥
 IsToolFaultOfSetup fault path (tool.Key told why) = ⊥
 IsToolFaultOfSetup fault path (tool.Load why) = ⊥
+IsToolFaultOfSetup fault path (tool.Index why) = ⊥
 
 -- what a fault of a text is told as
 abbrev pub IsToolFaultOfText : TextFault → ToolFault → Type 0
@@ -120,19 +131,20 @@ IsToolFaultOfDiff (compare.Key path why) (tool.Key told said) = (told.now ≡ pa
 IsToolFaultOfDiff (compare.Key path why) fault = ⊥
 IsToolFaultOfDiff (compare.Text why) fault = IsToolFaultOfText why fault
 
--- what a fault of showing a script with its answers is told as, where this is the path of the answer file
+-- what a fault of showing the answers of the journal of a path is told as
 abbrev pub IsToolFaultOfAnswers : AnswersFault → List ℕ → ToolFault → Type 0
-IsToolFaultOfAnswers (answers.Load file why) path fault = IsToolFaultOf (show.Load why) file.now fault
-IsToolFaultOfAnswers (answers.Pairs pairs.NoMemory) path fault = fault ≡ tool.NoMemory
-IsToolFaultOfAnswers (answers.Pairs why) path (tool.Pairs told said) = (told.now ≡ path) × (said ≡ why)
-IsToolFaultOfAnswers (answers.Pairs why) path fault = ⊥
+IsToolFaultOfAnswers answers.BadStation path fault = fault ≡ tool.BadStation
+IsToolFaultOfAnswers (answers.Load why) path fault = IsToolFaultOf (show.Load why) path fault
+IsToolFaultOfAnswers (answers.Journal why) path (tool.Journal told said) = (told.now ≡ path) × (said ≡ why)
+IsToolFaultOfAnswers (answers.Journal why) path fault = ⊥
 IsToolFaultOfAnswers answers.NoMemory path fault = fault ≡ tool.NoMemory
 IsToolFaultOfAnswers answers.Sink path fault = fault ≡ tool.Output
 
--- the fault says that the folder for a table can't be read
+-- the fault says that the folder for a table or an index can't be read
 abbrev pub TellsUnreadFolder : ToolFault → Type 0
 TellsUnreadFolder (tool.Make why) = why ≡ failure.Work make.Unread
 TellsUnreadFolder (tool.Load why) = why ≡ failure.Work load.Unread
+TellsUnreadFolder (tool.Index why) = why ≡ failure.Work index.Unread
 TellsUnreadFolder fault = ⊥
 
 -- ---- the exit status, and what is said
@@ -140,25 +152,35 @@ TellsUnreadFolder fault = ⊥
 -- 1 for the command line, 2 for a file or a setup, 3 for want of memory, 4 for the output or a folder
 abbrev pub tool_status : ToolFault → ℕ
 tool_status tool.BadRange = 1
+tool_status tool.BadStation = 1
 tool_status tool.NoMemory = 3
 tool_status (tool.Table path why) = 2
 tool_status (tool.Setup path why) = 2
 tool_status tool.Output = 4
 tool_status tool.BadOut = 1
+tool_status tool.BadIndexOut = 1
+tool_status tool.BadDates = 1
+tool_status tool.BadSeparator = 1
 tool_status (tool.Make why) = failure_status make_status why
-tool_status (tool.Pairs path why) = 2
+tool_status (tool.Journal path why) = 2
 tool_status (tool.Key path why) = 2
 tool_status (tool.Load why) = failure_status load_status why
+tool_status (tool.Index why) = failure_status index_status why
 
 -- why nothing is shown or checked, or not all; of a file, its path and why
 abbrev pub tool_words : ToolFault → List ℕ
 tool_words tool.BadRange = codes "--records wants a number N or a range N-M"
+tool_words tool.BadStation = codes "--station wants a number N"
 tool_words tool.NoMemory = codes "out of memory"
 tool_words (tool.Table path why) = path.now ++ (codes ": " ++ show_reason path.now why)
 tool_words (tool.Setup path why) = path.now ++ (codes ": " ++ check_reason path.now why)
 tool_words tool.Output = codes "the output failed"
 tool_words tool.BadOut = codes "--out wants a name that ends with .DBF or .dbf"
+tool_words tool.BadIndexOut = codes "--out wants a name that ends with .NDX or .ndx"
+tool_words tool.BadDates = codes "--dates is none of YYYYMMDD, YYYY-MM-DD, MM/DD/YYYY, MM/DD/YY and DD.MM.YYYY"
+tool_words tool.BadSeparator = codes "--separator is none of , ; and tab"
 tool_words (tool.Make why) = failure_words make_words why
-tool_words (tool.Pairs path why) = path.now ++ (codes ": " ++ pair_reason why)
+tool_words (tool.Journal path why) = path.now ++ journal_reason why
 tool_words (tool.Key path why) = path.now ++ (codes ": " ++ key_reason why)
 tool_words (tool.Load why) = failure_words load_job_words why
+tool_words (tool.Index why) = failure_words index_job_words why

@@ -5,12 +5,12 @@ pub mod Check
 pub mod Range
 pub mod Options
 pub mod Command
-pub mod IndexTree
 pub mod Reasons
 pub mod Faults
 pub mod TableMade
+pub mod TableIndexed
 pub mod TableLoaded
 pub mod Comparison
-pub mod Pairing
+pub mod JournalShown
 pub mod Answers
 pub mod RunAnswers

@@ -8,10 +8,11 @@ use Rattle.table_text.specs.declared.memo_form.MemoForm.{MemoForm}
 use Rattle.table_text.specs.declared.memo_form.MemoForm.TheVariants.{FirstLine, Whole}
 use Rattle.table_text.specs.declared.selection.Selection.{Selection}
 use Rattle.tool_program.specs.declared.asked.Asked.{Asked}
-use Rattle.tool_program.specs.declared.asked.Asked.TheVariants.{Show, Check, Tree, Make, Load, Diff, Answers}
+use Rattle.tool_program.specs.declared.asked.Asked.TheVariants.{Show, Check, Make, Load, Index, Diff, Answers}
 use Rattle.tool_program.specs.declared.asked.CheckOptions.{CheckOptions}
 use Rattle.tool_program.specs.declared.asked.AnswersOptions.{AnswersOptions}
 use Rattle.tool_program.specs.declared.asked.DiffOptions.{DiffOptions}
+use Rattle.tool_program.specs.declared.asked.IndexOptions.{IndexOptions}
 use Rattle.tool_program.specs.declared.asked.LoadOptions.{LoadOptions}
 use Rattle.tool_program.specs.declared.asked.MakeOptions.{MakeOptions}
 use Rattle.tool_program.specs.declared.asked.Options.{Options}
@@ -79,7 +80,17 @@ pub record IsOfLoad (rows : List Row) (options : LoadOptions) : Type 0 where
   pub memos : first_of (codes "memo") rows ≡ option_copied options.memos
   pub out : first_of (codes "out") rows ≡ Some options.out.now
   pub today : first_of (codes "today") rows ≡ Some options.today.now
+  pub dates : first_of (codes "dates") rows ≡ option_copied options.dates
+  pub separator : first_of (codes "separator") rows ≡ option_copied options.separator
   pub cut : IsFlag rows (codes "cut") options.cut
+  pub replace : IsFlag rows (codes "replace") options.replace
+
+-- what is asked for of an index that is made
+pub record IsOfIndex (rows : List Row) (options : IndexOptions) : Type 0 where
+  pub table : first_of (codes "table") rows ≡ Some options.table.now
+  pub memos : first_of (codes "memo") rows ≡ option_copied options.memos
+  pub expression : first_of (codes "on") rows ≡ Some options.expression.now
+  pub out : first_of (codes "out") rows ≡ Some options.out.now
   pub replace : IsFlag rows (codes "replace") options.replace
 
 -- what is asked for of two tables that are compared
@@ -90,25 +101,26 @@ pub record IsOfDiff (rows : List Row) (options : DiffOptions) : Type 0 where
   pub new_memos : first_of (codes "memo-new") rows ≡ option_copied options.new_memos
   pub key : first_of (codes "key") rows ≡ option_copied options.key
 
--- what is asked for of a script with its answers
+-- what is asked for of a journal's answers
 pub record IsOfAnswers (rows : List Row) (options : AnswersOptions) : Type 0 where
-  pub script : first_of (codes "script") rows ≡ Some options.script.now
-  pub answers : first_of (codes "answers") rows ≡ Some options.answers.now
+  pub journal : first_of (codes "journal") rows ≡ Some options.journal.now
+  pub station : first_of (codes "station") rows ≡ option_copied options.station
   pub refused : IsFlag rows (codes "refused") options.refused_only
 
 -- the name is that of a sub-command that shows a table: none of the others
 abbrev pub IsOfShow : Text → Type 0
 IsOfShow name =
-    (name ≢ codes "check") × (name ≢ codes "tree") × (name ≢ codes "make") × (name ≢ codes "load") × (name ≢ codes "diff") × (name ≢ codes "answers")
+    (name ≢ codes "check") × (name ≢ codes "make") × (name ≢ codes "load") × (name ≢ codes "index") × (name ≢ codes "diff")
+    × (name ≢ codes "answers")
 
--- What a sub-command of this name, with these options, asks for: `check` of a setup, `tree` of an index, `make` of a table that is
--- made, `load` of records that are loaded, `diff` of two tables, `answers` of a script, any other of a table (`IsOfShow`).
+-- what a sub-command of this name, with these options, asks for: `check` of a setup, `make` of a table that is made, `load` of
+-- records that are loaded, `index` of an index that is made, `diff` of two tables, `answers` of a journal, any other of a table
 abbrev pub IsAskedBy : Text → List Row → Asked → Type 0
 IsAskedBy name rows (Show options) = IsOfShow name × IsOfTable name rows options
 IsAskedBy name rows (Check options) = (name ≡ codes "check") × IsOfSetup rows options
-IsAskedBy name rows (Tree index) = (name ≡ codes "tree") × (first_of (codes "index") rows ≡ Some index.now)
 IsAskedBy name rows (Make options) = (name ≡ codes "make") × IsOfMake rows options
 IsAskedBy name rows (Load options) = (name ≡ codes "load") × IsOfLoad rows options
+IsAskedBy name rows (Index options) = (name ≡ codes "index") × IsOfIndex rows options
 IsAskedBy name rows (Diff options) = (name ≡ codes "diff") × IsOfDiff rows options
 IsAskedBy name rows (Answers options) = (name ≡ codes "answers") × IsOfAnswers rows options
 
@@ -136,23 +148,23 @@ abbrev pub loaded_text : List Row → Option Text
 loaded_text rows =
     first_of_two (first_of (codes "csv") rows) (first_of_three (first_of (codes "into") rows) (first_of (codes "out") rows) (first_of (codes "today") rows))
 
+-- the path of the table, where the key expression and the path of the index are there, too
+abbrev pub indexed_table : List Row → Option Text
+indexed_table rows = first_of_three (first_of (codes "table") rows) (first_of (codes "on") rows) (first_of (codes "out") rows)
+
 -- the path of the old table, where that of the new one is there, too
 abbrev pub compared_table : List Row → Option Text
 compared_table rows = first_of_two (first_of (codes "old") rows) (first_of (codes "new") rows)
-
--- the path of the script, where that of the answer file is there, too
-abbrev pub answered_script : List Row → Option Text
-answered_script rows = first_of_two (first_of (codes "script") rows) (first_of (codes "answers") rows)
 
 -- the path that a sub-command has to have
 abbrev pub path_of : Text → List Row → Option Text
 path_of name rows =
     if bytes_eq name (codes "check") then first_of (codes "setup") rows
-    else if bytes_eq name (codes "tree") then first_of (codes "index") rows
     else if bytes_eq name (codes "make") then made_list rows
     else if bytes_eq name (codes "load") then loaded_text rows
+    else if bytes_eq name (codes "index") then indexed_table rows
     else if bytes_eq name (codes "diff") then compared_table rows
-    else if bytes_eq name (codes "answers") then answered_script rows
+    else if bytes_eq name (codes "answers") then first_of (codes "journal") rows
     else first_of (codes "table") rows
 
 -- the sub-command has its path, as `clap` sees to it

@@ -2,6 +2,8 @@
 use Rattle.std.specs.Prelude.{ℕ, List, ◌++◌, codes, Some, None}
 use Rattle.std.specs.Fmt.{decimal}
 use Rattle.dbf_image.specs.FaultWords.{image_name, image_words}
+use Rattle.dbf_image.specs.declared.fault.ImageFault.{ImageFault}
+use Rattle.dbf_image.specs.declared.fault.ImageFault.TheVariants as image
 use Rattle.key_expr.specs.declared.fault.ExprFault.{ExprFault}
 use Rattle.key_expr.specs.FaultWords.{expression_name, expression_words}
 use Rattle.ndx_index.specs.FaultWords.{ndx_name, ndx_words}
@@ -9,8 +11,8 @@ use Rattle.folders.specs.declared.source.LoadFault.TheVariants as load
 use Rattle.table_reader.specs.TableFiles.{load_words}
 use Rattle.table_text.specs.declared.fault.TextFault.{TextFault}
 use Rattle.table_text.specs.declared.fault.TextFault.TheVariants as text
-use Rattle.answer_pairs.specs.declared.fault.PairFault.{PairFault}
-use Rattle.answer_pairs.specs.declared.fault.PairFault.TheVariants as pairs
+use Rattle.journal_file.specs.declared.cutting.JournalFault.{JournalFault}
+use Rattle.journal_file.specs.declared.cutting.JournalFault.TheVariants as journal
 use Rattle.tool_program.specs.declared.checking.CheckFault.{CheckFault}
 use Rattle.tool_program.specs.declared.checking.CheckFault.TheVariants as check
 use Rattle.tool_program.specs.declared.order.OrderFault.{OrderFault}
@@ -37,11 +39,17 @@ abbrev pub text_reason : TextFault → List ℕ
 text_reason text.Sink = codes "the sink failed"
 text_reason text.NoMemory = no_memory_words
 
+-- why the bytes of a file are no table; where the file of its memos is missing, also what to do
+abbrev pub table_reason : ImageFault → List ℕ
+table_reason image.MemoFileMissing =
+    codes "MemoFileMissing: the file of memos is missing: put it beside the table, or name it by --memo (diff: --memo-old, --memo-new)"
+table_reason why = named_reason (image_name why) (image_words why)
+
 -- why the file of a path, or its table, is not shown
 abbrev pub show_reason : List ℕ → ShowFault → List ℕ
 show_reason path (show.Load why) = load_words path why
 show_reason path (show.Memos why) = load_words path why
-show_reason path (show.Table why) = named_reason (image_name why) (image_words why)
+show_reason path (show.Table why) = table_reason why
 show_reason path (show.Order why) = order_reason path why
 show_reason path (show.Text why) = text_reason why
 
@@ -54,11 +62,10 @@ check_reason path (check.BadLine number (Some told)) = told
 check_reason path check.NoMemory = no_memory_words
 check_reason path check.Sink = text_reason text.Sink
 
--- why an answer file is not paired with a script
-abbrev pub pair_reason : PairFault → List ℕ
-pair_reason pairs.NotTogether = codes "these are no answers to this script"
-pair_reason pairs.TwoWays = codes "a text of several lines can end in two places"
-pair_reason pairs.NoMemory = no_memory_words
+-- why a file is no journal, after its path
+abbrev pub journal_reason : JournalFault → List ℕ
+journal_reason journal.Cut = codes " is cut"
+journal_reason journal.NoJournal = codes " is no journal"
 
 -- why the text of `--key` is no key expression for a table
 abbrev pub key_reason : ExprFault → List ℕ

@@ -4,6 +4,8 @@ use Rattle.dbf_fields.specs.Date.{SaysDay}
 use Rattle.files_in_place.specs.Disk.{DiskMeaning}
 use Rattle.folders.specs.declared.named.NamedFile.{NamedFile}
 use Rattle.folders.specs.Paths.{name_at_end}
+use Rattle.program_frame.specs.BesideDay.{IsWithoutDay}
+use Rattle.program_frame.specs.InputDays.{FileAnswers, IsDayBeside}
 use Rattle.program_frame.specs.Dates.{IsRunDate}
 use Rattle.program_frame.specs.declared.ending.Failure.{Failure}
 use Rattle.program_frame.specs.declared.ending.Failure.TheVariants as failure
@@ -38,11 +40,12 @@ abbrev pub told_of : Failure MakeFault → ToolFault
 told_of (failure.Work make.NoMemory) = tool.NoMemory
 told_of why = tool.Make why
 
--- the table was put into the folder of this disk, over no file that was there unless it is replaced
-abbrev pub IsPlacedBy : {D : Type 0} → DiskMeaning D → (D → Type 0) → Option (List NamedFile) → MakeOptions → Type 0
-IsPlacedBy {D} m is_opened files options =
-    (job : MakeJob) × IsJobOf options job
-    × HasMadeInto m is_opened (AreFilesOfJob files job) (λ before. options.replace ≡ false → IsFreeOfTable job before)
+-- the table was put into the folder of this disk, over no file that was there unless it is replaced; no day was open there, nor in the
+-- folder of the list of its fields
+abbrev pub IsPlacedBy : {D : Type 0} → DiskMeaning D → (D → Type 0) → FileAnswers → Option (List NamedFile) → MakeOptions → Type 0
+IsPlacedBy {D} m is_opened answers files options =
+    (job : MakeJob) × IsJobOf options job × IsDayBeside answers job.list.now false
+    × HasMadeInto m (IsWithoutDay m answers is_opened) (AreFilesOfJob files job) (λ before. options.replace ≡ false → IsFreeOfTable job before)
 
 -- a file stood in the way of the table in that folder
 abbrev pub IsTakenBy : {D : Type 0} → DiskMeaning D → (D → Type 0) → MakeOptions → Type 0

@@ -1,5 +1,5 @@
 -- Whether the server opens what a setup names, in words.
-use Rattle.std.specs.Prelude.{ℕ, List, [], ◌∷◌, ◌++◌, codes, Option, Some, None}
+use Rattle.std.specs.Prelude.{Bool, true, false, ℕ, List, [], ◌∷◌, ◌++◌, codes, Option, Some, None}
 use Rattle.std.specs.Fmt.{decimal}
 use Rattle.catalogue_core.specs.declared.opening.OpenFault.{OpenFault}
 use Rattle.catalogue_core.specs.declared.opening.OpenFault.TheVariants as open_fault
@@ -38,14 +38,19 @@ open_words open_fault.NoMemory = codes "out of memory"
 
 -- Why the server opens nothing, in words. What a run or a close ends in is none of opening.
 abbrev pub unopened_words : ServeFault → List ℕ
-unopened_words (serve.Setup number) = codes "line " ++ (decimal number ++ codes " of the setup is bad")
+unopened_words (serve.Setup bad) = codes "line " ++ (decimal bad.number ++ codes " of the setup is bad")
 unopened_words (serve.File path fault) = path ++ file_words fault
 unopened_words (serve.Refused fault) = open_words fault
 unopened_words (serve.Run fault) = []
 unopened_words (serve.Close fault) = []
 unopened_words serve.NoMemory = codes "out of memory"
 
+-- that the server opens all; while a day is open beside a table, once that is closed
+abbrev pub good_line : Bool → List ℕ
+good_line true = codes "good: the server opens all once the day is closed" ++ LF ∷ []
+good_line false = codes "good: the server opens all" ++ LF ∷ []
+
 -- the last line of a check
-abbrev pub verdict_line : Option ServeFault → List ℕ
-verdict_line None = codes "good: the server opens all" ++ LF ∷ []
-verdict_line (Some fault) = codes "bad: the server opens nothing: " ++ (unopened_words fault ++ LF ∷ [])
+abbrev pub verdict_line : Bool → Option ServeFault → List ℕ
+verdict_line is_day_open None = good_line is_day_open
+verdict_line is_day_open (Some fault) = codes "bad: the server opens nothing: " ++ (unopened_words fault ++ LF ∷ [])

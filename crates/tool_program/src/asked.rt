@@ -64,9 +64,28 @@ pub(crate) struct LoadOptions<'a> {
     pub out: &'a str,
     /// The text of the date that it tells.
     pub today: &'a str,
+    /// The text of how its dates are written, where it is given.
+    pub dates: Option<&'a str>,
+    /// The text of what separates its cells, where it is given.
+    pub separator: Option<&'a str>,
     /// Whether a text that is too wide for its field is cut.
     pub cut: bool,
     /// Whether files that are there are replaced.
+    pub replace: bool,
+}
+
+/// What a command line says of an index that is made of a table.
+#[derive(Clone, Copy, Debug)]
+pub(crate) struct IndexOptions<'a> {
+    /// The path of the table.
+    pub table: &'a str,
+    /// The path of the file of its memos, where it is given.
+    pub memos: Option<&'a str>,
+    /// The text of the key expression.
+    pub expression: &'a str,
+    /// The path of the index.
+    pub out: &'a str,
+    /// Whether a file that is there is replaced.
     pub replace: bool,
 }
 
@@ -85,14 +104,14 @@ pub(crate) struct DiffOptions<'a> {
     pub key: Option<&'a str>,
 }
 
-/// What a command line says of a script that is shown with its answers.
+/// What a command line says of a journal whose answers are shown.
 #[derive(Clone, Copy, Debug)]
 pub(crate) struct AnswersOptions<'a> {
-    /// The path of the script.
-    pub script: &'a str,
-    /// The path of the answer file.
-    pub answers: &'a str,
-    /// Whether the refused lines alone are shown.
+    /// The path of the journal.
+    pub journal: &'a str,
+    /// The number of the station whose answers are shown, as it is given; those of all stations, where none is.
+    pub station: Option<&'a str>,
+    /// Whether the refused entries alone are shown.
     pub refused_only: bool,
 }
 
@@ -103,14 +122,14 @@ pub(crate) enum Asked<'a> {
     Show(Options<'a>),
     /// The check of a setup.
     Check(CheckOptions<'a>),
-    /// The pages of the index file of this path.
-    Tree(&'a str),
     /// A table that is made.
     Make(MakeOptions<'a>),
     /// A table with the records of a text of CSV after its own.
     Load(LoadOptions<'a>),
+    /// An index of a table.
+    Index(IndexOptions<'a>),
     /// What has changed from one table to another.
     Diff(DiffOptions<'a>),
-    /// A script with its answers.
+    /// The answers of a journal.
     Answers(AnswersOptions<'a>),
 }

@@ -1,9 +1,10 @@
 //! A setup that is checked.
 
-ghost use Rattle.std.specs.Prelude.{◌≡◌, ◌⊎◌, ℕ, List, Option, Ok, Err, Some, IfOk, IfErr, IfSome};
+ghost use Rattle.std.specs.Prelude.{◌≡◌, ◌⊎◌, ℕ, not, List, Option, Ok, Err, Some, IfOk, IfErr, IfSome};
 ghost use Rattle.byte_io.specs.Sink.{IsFront, Rises};
 ghost use Rattle.folders.specs.Files.{IsTooLong, IsUnrecovered, load_refusal};
 ghost use Rattle.folders.specs.declared.named.NamedFile.{NamedFile};
+ghost use Rattle.station_lines.specs.Script.Reading.{is_empty};
 ghost use Rattle.station_lines.specs.Setup.{IndexesFollowTables, IsSetup};
 ghost use Rattle.setup_files.specs.EntryFiles.{AreEntriesRead};
 ghost use Rattle.office_run.specs.WholeRun.{IsSaid};
@@ -123,6 +124,13 @@ fn entries_of(alloc: Global, text: &[u8]) -> Result<Vec<SetupEntry>, CheckFault>
     }
 }
 
+// Whether a day is open beside a table, by what is told of the days there.
+fn is_day_told(days: &Vec<u8>) -> bool
+    ensures value { result ≡ not (is_empty days.now.items) }
+{
+    !days.is_empty()
+}
+
 /// Looks at every file that the setup of a path names, and tells what is found, a line a file, which files stay as they are beside
 /// new ones, which lines of the scripts are no commands, in which folders of tables a live day is open, and whether the server would
 /// open all, or why it would open nothing. Whether it would is answered too. Each file is loaded once.
@@ -167,7 +175,7 @@ pub fn check_setup<F: Source, S: ByteSink>(
     let fault = fault_of_opening(alloc, &entries, reads)?;
     let days = open_days_text(alloc, source, &entries)?;
     report.extend_from_slice(&days)?;
-    append_verdict(alloc, &mut report, &fault)?;
+    append_verdict(alloc, &mut report, is_day_told(&days), &fault)?;
     write_all(sink, &report)?;
     Ok(fault.is_none())
 }

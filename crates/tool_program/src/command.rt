@@ -1,14 +1,16 @@
 //! The command line as `clap` is told it: the program's sub-commands, and what their help says.
 
 ghost use Rattle.std.specs.Prelude.{◌≡◌, false, IfOk};
-ghost use Rattle.clap.specs.Words.{app_of, new_app, rule_of};
-ghost use Rattle.tool_program.specs.Command.{check_app, csv_app, fields_app, from_rule, path_rule, show_app, tool_app, tree_app};
-ghost use Rattle.tool_program.specs.Command.{answers_app, bare_app, diff_app, load_app, make_app};
-ghost use Rattle.tool_program.specs.Command.{with_csv_paths, with_new_table_path, with_record_choice, with_table_paths, with_two_table_paths};
+ghost use Rattle.clap.specs.Words.{app_of, rule_of};
+ghost use Rattle.tool_program.specs.Command.{check_app, csv_app, fields_app, from_rule, show_app, tool_app};
+ghost use Rattle.tool_program.specs.Command.{answers_app, bare_app, diff_app};
+ghost use Rattle.tool_program.specs.Command.{with_record_choice, with_two_table_paths};
 
+use crate::command_making::{index_command, load_command, make_command};
+use crate::command_parts::{path, sub_command, with_table};
 use clap::builder::ValueParser;
-use clap::{Arg, ArgAction, Command};
-use program_frame::{flag, option, program, required_option};
+use clap::{Arg, Command};
+use program_frame::{flag, option, program};
 use std::alloc::{AllocError, Global};
 
 // What the help tells after the commands.
@@ -17,19 +19,19 @@ const EXAMPLES: &str = "Examples:
   table_tool show MEMBERS.DBF --memo MEMBERS.DBT --order BYNAME.NDX --from M
   table_tool fields STOCK.DBF > FIELDS.TXT
   table_tool check OFFICE.SET --lines
-  table_tool tree BYNAME.NDX
   table_tool csv LEDGER.DBF --deleted --deleted-column > LEDGER.CSV
   table_tool make FIELDS.TXT --out PEOPLE.DBF --today 19870302
   table_tool load LEDGER.CSV --into LEDGER.DBF --out TWICE.DBF --today 19870302
+  table_tool index MEMBERS.DBF --on NAME --out BYNAME.NDX
   table_tool diff MEMBERS.DBF NEW/MEMBERS.DBF
-  table_tool answers MEMBERS.PRG NEW/STATION2.TXT --refused
+  table_tool answers NEW/JOURNAL.TXT --station 2 --refused
 
 Exit status:
   0  all is shown or made, the server would open the setup, the tables are the same, no answer is a refusal; or the reader of the output is gone
   1  the command line is bad; or the two tables differ, or some of the answers are refusals
-  2  a file can't be read or is not what it should be, the server would not open the setup, or the table is there
+  2  a file can't be read or is not what it should be, the server would not open the setup, or the table or the index is there
   3  memory was refused
-  4  the output failed, or the folder has not got the table";
+  4  the output failed, or the folder has not got the table or the index";
 
 /// The command line, for `clap` to read. An error where memory is refused.
 pub(crate) fn command<'a>(alloc: Global) -> Result<Command<'a>, AllocError>
@@ -40,9 +42,9 @@ pub(crate) fn command<'a>(alloc: Global) -> Result<Command<'a>, AllocError>
         .subcommand(fields_command(alloc)?)?
         .subcommand(csv_command(alloc)?)?
         .subcommand(check_command(alloc)?)?
-        .subcommand(tree_command(alloc)?)?
         .subcommand(make_command(alloc)?)?
         .subcommand(load_command(alloc)?)?
+        .subcommand(index_command(alloc)?)?
         .subcommand(diff_command(alloc)?)?
         .subcommand(answers_command(alloc)?)
 }
@@ -52,17 +54,10 @@ fn bare_command<'a>(alloc: Global) -> Command<'a>
     ensures app { app_of result ≡ bare_app }
 {
     let about =
-        "Shows dBASE III PLUS tables, indexes and answers, compares tables, makes them and loads them";
+        "Shows dBASE III PLUS tables and answers, compares tables, makes them and loads them";
     program(alloc, "table_tool", about, EXAMPLES)
         .subcommand_required(true)
         .arg_required_else_help(true)
-}
-
-// A sub-command of a name, with no option yet: what it does, and what its help says after the options.
-fn sub_command<'a>(alloc: Global, name: &'a str, about: &'a str, example: &'a str) -> Command<'a>
-    ensures app { app_of result ≡ new_app name.entry.now }
-{
-    Command::new(alloc, name).about(about).after_help(example)
 }
 
 fn show_command<'a>(alloc: Global) -> Result<Command<'a>, AllocError>
@@ -136,66 +131,6 @@ fn check_command<'a>(alloc: Global) -> Result<Command<'a>, AllocError>
     ))
 }
 
-fn tree_command<'a>(alloc: Global) -> Result<Command<'a>, AllocError>
-    ensures app { IfOk result (λ command. app_of command ≡ tree_app) }
-{
-    sub_command(
-        alloc,
-        "tree",
-        "Prints the header of an index file, and its pages as a tree",
-        "Example:\n  table_tool tree BYNAME.NDX",
-    )
-    .arg(path(
-        alloc,
-        "index",
-        "FILE.NDX",
-        "The index, which may be damaged",
-    ))
-}
-
-fn make_command<'a>(alloc: Global) -> Result<Command<'a>, AllocError>
-    ensures app { IfOk result (λ command. app_of command ≡ make_app) }
-{
-    sub_command(
-        alloc,
-        "make",
-        "Makes an empty table, and the file of its memos, from a list of its fields",
-        "Example:\n  table_tool make FIELDS.TXT --out PEOPLE.DBF --today 19870302",
-    )
-    .arg(path(
-        alloc,
-        "list",
-        "FIELDS.TXT",
-        "The list: a line for each field, as `fields` prints it",
-    ))?
-    .arg(required_option(alloc, "out", "FILE.DBF", "The table, FILE.DBF or file.dbf"))?
-    .arg(required_option(alloc, "today", "YYYYMMDD", "The date that the table tells"))?
-    .arg(flag(alloc, "replace", "Replace files that are there"))
-}
-
-fn load_command<'a>(alloc: Global) -> Result<Command<'a>, AllocError>
-    ensures app { IfOk result (λ command. app_of command ≡ load_app) }
-{
-    with_new_table(
-        alloc,
-        with_csv(
-            alloc,
-            sub_command(
-                alloc,
-                "load",
-                "Makes a table of another one and the records of a file of CSV, which come after its own",
-                "Example:\n  table_tool load LEDGER.CSV --into LEDGER.DBF --out TWICE.DBF --today 19870302",
-            ),
-        )?,
-    )?
-    .arg(flag(
-        alloc,
-        "cut",
-        "Cut a text that is too wide for its field, in place of refusing it",
-    ))?
-    .arg(flag(alloc, "replace", "Replace files that are there"))
-}
-
 fn diff_command<'a>(alloc: Global) -> Result<Command<'a>, AllocError>
     ensures app { IfOk result (λ command. app_of command ≡ diff_app) }
 {
@@ -222,74 +157,21 @@ fn answers_command<'a>(alloc: Global) -> Result<Command<'a>, AllocError>
     sub_command(
         alloc,
         "answers",
-        "Prints each line of a script that has an answer, with its answer",
-        "Example:\n  table_tool answers MEMBERS.PRG NEW/STATION2.TXT --refused",
+        "Prints each command of a run, with its station and its answer",
+        "Example:\n  table_tool answers NEW/JOURNAL.TXT --station 2 --refused",
     )
-    .arg(path(alloc, "script", "SCRIPT.PRG", "The script"))?
     .arg(path(
         alloc,
-        "answers",
-        "STATION1.TXT",
-        "The file of the answers to it, as a run wrote it",
+        "journal",
+        "JOURNAL.TXT",
+        "The journal of the run, as `station_server --journal` wrote it",
     ))?
+    .arg(option(alloc, "station", "N", "Only the commands of this station"))?
     .arg(flag(
         alloc,
         "refused",
-        "Print the refused lines alone, with their numbers, and how many they are",
+        "Print the refused commands alone, and how many they are",
     ))
-}
-
-// A command with the paths of a table.
-fn with_table<'a>(alloc: Global, command: Command<'a>) -> Result<Command<'a>, AllocError>
-    ensures app { IfOk result (λ more. app_of more ≡ with_table_paths (app_of command.entry)) }
-{
-    command
-        .arg(path(alloc, "table", "FILE.DBF", "The table"))?
-        .arg(option(
-            alloc,
-            "memo",
-            "FILE.DBT",
-            "The file of its memos, where it has such fields; if not given, FILE.DBT beside FILE.DBF, or file.dbt beside file.dbf",
-        ))
-}
-
-// A command with the paths of a text of CSV and of the table whose records come first.
-fn with_csv<'a>(alloc: Global, command: Command<'a>) -> Result<Command<'a>, AllocError>
-    ensures app { IfOk result (λ more. app_of more ≡ with_csv_paths (app_of command.entry)) }
-{
-    command
-        .arg(path(
-            alloc,
-            "csv",
-            "DATA.CSV",
-            "The file of CSV: the names of fields, then a line for each record, as `csv` prints them",
-        ))?
-        .arg(required_option(
-            alloc,
-            "into",
-            "OLD.DBF",
-            "The table whose records come first",
-        ))?
-        .arg(option(
-            alloc,
-            "memo",
-            "OLD.DBT",
-            "The file of its memos; if not given, the one beside it",
-        ))
-}
-
-// A command with the path of a new table, and the date that it tells.
-fn with_new_table<'a>(alloc: Global, command: Command<'a>) -> Result<Command<'a>, AllocError>
-    ensures app { IfOk result (λ more. app_of more ≡ with_new_table_path (app_of command.entry)) }
-{
-    command
-        .arg(required_option(alloc, "out", "NEW.DBF", "The new table, NEW.DBF or new.dbf"))?
-        .arg(required_option(
-            alloc,
-            "today",
-            "YYYYMMDD",
-            "The date that the new table tells",
-        ))
 }
 
 // A command with the paths of two tables.
@@ -351,17 +233,4 @@ fn from_option<'a>(alloc: Global) -> Result<Arg<'a>, AllocError>
     )
     .value_parser(ValueParser::String)
     .requires_arg("order")
-}
-
-// A path that has to be given, and is not empty.
-fn path<'a>(alloc: Global, name: &'a str, value_name: &'a str, help: &'a str) -> Arg<'a>
-    ensures rule { rule_of result ≡ path_rule name.entry.now }
-    ensures local { result.global ≡ false }
-{
-    Arg::new(alloc, name)
-        .value_name(value_name)
-        .help(help)
-        .required(true)
-        .action(ArgAction::Set)
-        .value_parser(ValueParser::NonEmptyString)
 }

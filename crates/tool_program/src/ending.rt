@@ -10,12 +10,10 @@ use crate::asked::Options;
 use crate::checking::CheckFault;
 use crate::comparing::CompareFault;
 use crate::fault::ToolFault;
+use crate::journal::AnswersFault;
 use crate::order::OrderFault;
-use crate::pairing::AnswersFault;
 use crate::report::ToolReport;
 use crate::showing::ShowFault;
-use answer_pairs::PairFault;
-use folders::LoadFault;
 use key_expr::ExprFault;
 use ndx_index::NdxFault;
 use table_reader::{TableReadFault, is_image_without_memory, is_load_without_memory};
@@ -158,22 +156,21 @@ pub(crate) fn not_compared(
     }
 }
 
-/// What a call ends in that could not show a script with the answers of the file of a path, or not all of it.
-pub(crate) fn no_answers<'a>(
-    fault: AnswersFault<'a>,
+/// What a call ends in that could not show the answers of the journal of a path, or not all of them.
+pub(crate) fn no_answers(
+    fault: AnswersFault,
     is_closed: bool,
-    path: &'a str,
-) -> Result<ToolReport, ToolFault<'a>>
-    ensures fault { IfErr result (IsToolFaultOfAnswers fault.entry path.entry.now) }
-    ensures output { result ≡ Err ToolFault.Output → (fault.entry ≡ AnswersFault.Sink) × (is_closed ≡ false) }
+    path: &str,
+) -> Result<ToolReport, ToolFault<'_>>
+    ensures fault { IfErr result (IsToolFaultOfAnswers fault path.now) }
+    ensures output { result ≡ Err ToolFault.Output → (fault ≡ AnswersFault.Sink) × (is_closed ≡ false) }
     ensures unread { IfOk result (λ report. report ≡ ToolReport.Unread) }
-    ensures closed { OnOk result ((fault.entry ≡ AnswersFault.Sink) × (is_closed ≡ true)) }
+    ensures closed { OnOk result ((fault ≡ AnswersFault.Sink) × (is_closed ≡ true)) }
 {
     match fault {
-        AnswersFault::Load(_, LoadFault::NoMemory) => Err(ToolFault::NoMemory),
-        AnswersFault::Load(file, why) => Err(ToolFault::Table(file, ShowFault::Load(why))),
-        AnswersFault::Pairs(PairFault::NoMemory) => Err(ToolFault::NoMemory),
-        AnswersFault::Pairs(why) => Err(ToolFault::Pairs(path, why)),
+        AnswersFault::BadStation => Err(ToolFault::BadStation),
+        AnswersFault::Load(why) => Err(file_fault(ShowFault::Load(why), path)),
+        AnswersFault::Journal(why) => Err(ToolFault::Journal(path, why)),
         AnswersFault::NoMemory => Err(ToolFault::NoMemory),
         AnswersFault::Sink => output_failed(is_closed),
     }

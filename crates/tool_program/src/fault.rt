@@ -3,23 +3,31 @@
 ghost use Rattle.std.specs.Prelude.{◌++◌, codes, OnOk};
 ghost use Rattle.std.specs.Io.KnownBytes.{Appends};
 ghost use Rattle.tool_program.specs.Faults.{tool_status, tool_words as words_of_tool};
-ghost use Rattle.tool_program.specs.Reasons.{check_reason, key_reason, pair_reason, show_reason};
+ghost use Rattle.tool_program.specs.Reasons.{check_reason, journal_reason, key_reason, show_reason};
 
 use crate::checking::CheckFault;
-use crate::reason::{print_check_reason, print_key_reason, print_pair_reason, print_show_reason};
+use crate::reason::{
+    journal_reason as reason_of_journal, print_check_reason, print_key_reason, print_show_reason,
+};
 use crate::showing::ShowFault;
-use answer_pairs::PairFault;
+use journal_file::JournalFault;
 use key_expr::ExprFault;
 use program_frame::{Failure, Reason};
 use std::io;
 use std::io::Write;
-use table_maker::{LoadJobFault, MakeFault};
+use table_maker::{IndexJobFault, LoadJobFault, MakeFault};
+
+// What is said of a form of dates that is none.
+const BAD_DATES: &[u8] =
+    b"--dates is none of YYYYMMDD, YYYY-MM-DD, MM/DD/YYYY, MM/DD/YY and DD.MM.YYYY";
 
 /// Why a call of the program did not show, check or make what it was asked for, or not all.
 #[derive(Debug, PartialEq, Eq, Drop)]
 pub enum ToolFault<'a> {
     /// The range of records is none.
     BadRange,
+    /// The number of a station is none.
+    BadStation,
     /// Memory was refused.
     NoMemory,
     /// The table or the index can't be shown for a fault of the file of this path.
@@ -30,12 +38,20 @@ pub enum ToolFault<'a> {
     Output,
     /// The name of a table that is to be made ends with neither `.DBF` nor `.dbf`.
     BadOut,
+    /// The name of an index that is to be made ends with neither `.NDX` nor `.ndx`.
+    BadIndexOut,
+    /// The form of dates that is named is none.
+    BadDates,
+    /// The separator that is named is none.
+    BadSeparator,
     /// The table is not made.
     Make(Failure<MakeFault<'a>>),
     /// The records of a text of CSV are not loaded.
     Load(Failure<LoadJobFault<'a>>),
-    /// The answer file of this path is not paired with the script.
-    Pairs(&'a str, PairFault),
+    /// The index is not made.
+    Index(Failure<IndexJobFault<'a>>),
+    /// The file of this path is no journal, or one that is cut.
+    Journal(&'a str, JournalFault),
     /// The text of `--key` is no key expression for the table of this path.
     Key(&'a str, ExprFault),
 }
@@ -54,14 +70,19 @@ impl Reason for ToolFault<'_> {
     fn exit_status(&self) -> u8 {
         match self {
             ToolFault::BadRange => 1,
+            ToolFault::BadStation => 1,
             ToolFault::Table(_, _) => 2,
             ToolFault::Setup(_, _) => 2,
             ToolFault::NoMemory => 3,
             ToolFault::Output => 4,
             ToolFault::BadOut => 1,
+            ToolFault::BadIndexOut => 1,
+            ToolFault::BadDates => 1,
+            ToolFault::BadSeparator => 1,
             ToolFault::Make(fault) => fault.exit_status(),
             ToolFault::Load(fault) => fault.exit_status(),
-            ToolFault::Pairs(_, _) => 2,
+            ToolFault::Index(fault) => fault.exit_status(),
+            ToolFault::Journal(_, _) => 2,
             ToolFault::Key(_, _) => 2,
         }
     }
@@ -81,14 +102,21 @@ fn print_fault<W: Write>(out: &mut W, fault: &ToolFault<'_>) -> io::Result<()>
 {
     match fault {
         ToolFault::BadRange => out.write_all(b"--records wants a number N or a range N-M"),
+        ToolFault::BadStation => out.write_all(b"--station wants a number N"),
         ToolFault::NoMemory => out.write_all(b"out of memory"),
         ToolFault::Table(path, fault) => print_table(out, path, *fault),
         ToolFault::Setup(path, fault) => print_setup(out, path, fault),
         ToolFault::Output => out.write_all(b"the output failed"),
         ToolFault::BadOut => out.write_all(b"--out wants a name that ends with .DBF or .dbf"),
+        ToolFault::BadIndexOut => {
+            out.write_all(b"--out wants a name that ends with .NDX or .ndx")
+        }
+        ToolFault::BadDates => out.write_all(BAD_DATES),
+        ToolFault::BadSeparator => out.write_all(b"--separator is none of , ; and tab"),
         ToolFault::Make(fault) => fault.print(out),
         ToolFault::Load(fault) => fault.print(out),
-        ToolFault::Pairs(path, fault) => print_pairs(out, path, *fault),
+        ToolFault::Index(fault) => fault.print(out),
+        ToolFault::Journal(path, fault) => print_journal(out, path, *fault),
         ToolFault::Key(path, fault) => print_key(out, path, *fault),
     }
 }
@@ -111,12 +139,11 @@ fn print_setup<W: Write>(out: &mut W, path: &str, fault: &CheckFault) -> io::Res
     Ok(())
 }
 
-fn print_pairs<W: Write>(out: &mut W, path: &str, fault: PairFault) -> io::Result<()>
-    ensures text { OnOk result (Appends (W.contents out.old) (W.contents out.new) (path.now ++ (codes ": " ++ pair_reason fault))) }
+fn print_journal<W: Write>(out: &mut W, path: &str, fault: JournalFault) -> io::Result<()>
+    ensures text { OnOk result (Appends (W.contents out.old) (W.contents out.new) (path.now ++ journal_reason fault)) }
 {
     out.write_all(path.as_bytes())?;
-    out.write_all(b": ")?;
-    print_pair_reason(out, fault)?;
+    out.write_all(reason_of_journal(fault))?;
     Ok(())
 }
 

@@ -1,19 +1,15 @@
-//! The answer files of runs, as `table_tool answers` shows them.
+//! The journals of runs, as `table_tool answers` shows them.
 
 ghost use Rattle.std.specs.Prelude.{ℕ, List, Option};
 ghost use Rattle.catalogue_core.specs.declared.entry.Entry.{Entry};
-ghost use Rattle.catalogue_core.specs.Replay.{Opened, IsLegal};
 ghost use Rattle.folders.specs.declared.named.NamedFile.{NamedFile};
-ghost use Rattle.tool_program.specs.RunAnswers.{NeverParted, ReportBelongs, RunBelongs, ShowsOwnAnswers};
+ghost use Rattle.tool_program.specs.RunAnswers.{AsksForItsOwn, NeverCalledNone, ShowsAnswersOfRun};
 
-/// A law: the file of the answers that a station got in a run belongs to the station's script. The pairs of the two are the script's lines
-/// that have an answer, each with its own: the answer of its own entry in the journal of the run, or the status row that was shown for it.
-/// None is left out. These are the pairs that `table_tool answers` shows of the two files, whoever has written them there; where they
-/// could be paired in another way too it shows none and says so, and it never says that they don't belong together. There is no other way
-/// where each answer is one line.
-pub fn own_answers_are_shown()
-    ensures report { (opened : Opened) (journal : List Entry) (station : ℕ) (script answers : List ℕ) → ReportBelongs opened journal station script answers }
-    ensures run { (files : Option (List NamedFile)) (setup : List ℕ) → RunBelongs files setup }
-    ensures shown { (opened : Opened) (journal : List Entry) (station : ℕ) → IsLegal opened journal → ShowsOwnAnswers opened journal station }
-    ensures together { (opened : Opened) (journal : List Entry) (station : ℕ) → IsLegal opened journal → NeverParted opened journal station }
+/// A law: what `table_tool answers` prints of the journal's file of a run are the entries of that run's journal, in its order: each
+/// command beside the answer that it got. With the number of a station they are those of this station alone. It never says of such a file
+/// that it is no journal, or is cut.
+pub fn answers_of_runs_are_shown()
+    ensures shown { (files : Option (List NamedFile)) (later : List NamedFile) (setup : List ℕ) → ShowsAnswersOfRun files later setup }
+    ensures own { (journal : List Entry) (station : ℕ) → AsksForItsOwn journal station }
+    ensures never_none { (files : Option (List NamedFile)) (later : List NamedFile) (setup : List ℕ) → NeverCalledNone files later setup }
 {}

@@ -67,7 +67,7 @@ pub(crate) fn make_table<'a, F: Source, Y: System>(
     options: &MakeOptions<'a>,
 ) -> Result<ToolReport, ToolFault<'a>>
     ensures report { IfOk result (λ report. report ≡ ToolReport.Good) }
-    ensures made { IfOk result (λ _. IsPlacedBy Y.Disk.meaning (Y.opens system.now (folder_of_path options.now.out.now)) (F.files source.old) options.now) }
+    ensures made { IfOk result (λ _. IsPlacedBy Y.Disk.meaning (Y.opens system.now (folder_of_path options.now.out.now)) (Y.answers system.now) (F.files source.old) options.now) }
     ensures taken { IsErrOf result (ToolFault.Make (OfWork Exists))
         → IsTakenBy Y.Disk.meaning (Y.opens system.now (folder_of_path options.now.out.now)) options.now }
     ensures unread { (told : ToolFault) → TellsUnreadFolder told → IsErrOf result told

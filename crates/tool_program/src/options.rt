@@ -5,11 +5,12 @@ ghost use Rattle.clap.specs.Words.{first_of, subcommand_rows_of};
 ghost use Rattle.program_frame.specs.CommandLine.{option_rows};
 ghost use Rattle.tool_program.specs.Command.{IsAskedIn, IsWhyNotRead};
 ghost use Rattle.tool_program.specs.Options.{is_each, path_of, range_given, shows_whole, AsksBadRange, HasBadRange, HasPath};
-ghost use Rattle.tool_program.specs.Options.{answered_script, compared_table, loaded_text, made_list};
-ghost use Rattle.tool_program.specs.Options.{IsAskedBy, IsAskedOf, IsOfAnswers, IsOfDiff, IsOfLoad, IsOfMake, IsOfSetup, IsOfTable, IsSelection, IsView};
+ghost use Rattle.tool_program.specs.Options.{compared_table, indexed_table, loaded_text, made_list};
+ghost use Rattle.tool_program.specs.Options.{IsAskedBy, IsAskedOf, IsOfAnswers, IsOfDiff, IsOfIndex, IsOfLoad, IsOfMake, IsOfSetup, IsOfTable, IsSelection, IsView};
 
 use crate::asked::{
-    AnswersOptions, Asked, CheckOptions, DiffOptions, LoadOptions, MakeOptions, Options, View,
+    AnswersOptions, Asked, CheckOptions, DiffOptions, IndexOptions, LoadOptions, MakeOptions,
+    Options, View,
 };
 use crate::command::command;
 use crate::fault::ToolFault;
@@ -137,7 +138,24 @@ fn load_asked<'a>(matches: &ArgMatches<'a>) -> Option<LoadOptions<'a>>
         memos: value_of(matches, "memo"),
         out: value_of(matches, "out")?,
         today: value_of(matches, "today")?,
+        dates: value_of(matches, "dates"),
+        separator: value_of(matches, "separator"),
         cut: has_flag(matches, "cut"),
+        replace: has_flag(matches, "replace"),
+    })
+}
+
+// What is asked for of an index that is made. `None` where one of its three texts is missing.
+#[tactic(auto, using(crate::proofs::MadeLaws::none_first, crate::proofs::MadeLaws::none_second, crate::proofs::MadeLaws::none_third))]
+fn index_asked<'a>(matches: &ArgMatches<'a>) -> Option<IndexOptions<'a>>
+    ensures asked { IfSome result (IsOfIndex (option_rows matches.now)) }
+    ensures bad { result ≡ None → indexed_table (option_rows matches.now) ≡ None }
+{
+    Some(IndexOptions {
+        table: value_of(matches, "table")?,
+        memos: value_of(matches, "memo"),
+        expression: value_of(matches, "on")?,
+        out: value_of(matches, "out")?,
         replace: has_flag(matches, "replace"),
     })
 }
@@ -157,15 +175,14 @@ fn diff_asked<'a>(matches: &ArgMatches<'a>) -> Option<DiffOptions<'a>>
     })
 }
 
-// What is asked for of a script with its answers. `None` where the path of one is missing.
-#[tactic(auto, using(crate::proofs::MadeLaws::none_of_two, crate::proofs::MadeLaws::none_after))]
+// What is asked for of a journal's answers. `None` where its path is missing.
 fn answers_asked<'a>(matches: &ArgMatches<'a>) -> Option<AnswersOptions<'a>>
     ensures asked { IfSome result (IsOfAnswers (option_rows matches.now)) }
-    ensures bad { result ≡ None → answered_script (option_rows matches.now) ≡ None }
+    ensures bad { result ≡ None → first_of (codes "journal") (option_rows matches.now) ≡ None }
 {
     Some(AnswersOptions {
-        script: value_of(matches, "script")?,
-        answers: value_of(matches, "answers")?,
+        journal: value_of(matches, "journal")?,
+        station: value_of(matches, "station"),
         refused_only: has_flag(matches, "refused"),
     })
 }
@@ -177,9 +194,9 @@ fn asked_by<'a>(name: &str, matches: &ArgMatches<'a>) -> Option<Asked<'a>>
 {
     match name {
         "check" => Some(Asked::Check(setup_asked(matches)?)),
-        "tree" => Some(Asked::Tree(value_of(matches, "index")?)),
         "make" => Some(Asked::Make(make_asked(matches)?)),
         "load" => Some(Asked::Load(load_asked(matches)?)),
+        "index" => Some(Asked::Index(index_asked(matches)?)),
         "diff" => Some(Asked::Diff(diff_asked(matches)?)),
         "answers" => Some(Asked::Answers(answers_asked(matches)?)),
         _ => Some(Asked::Show(table_asked(name, matches)?)),

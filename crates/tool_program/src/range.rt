@@ -13,9 +13,9 @@ pub const MAX_DIGITS: usize = 10;
 /// The greatest number that a range may name.
 pub const MAX_RECORD_NUMBER: u64 = 4_294_967_295;
 
-// The number that a text is.
+/// The number that a text is: one to ten digits of a number that 32 bits keep. Takes no memory.
 #[tactic(auto, unfolding(crate::specs::Range::record_number))]
-fn record_number(text: &[u8]) -> Option<u32>
+pub(crate) fn record_number(text: &[u8]) -> Option<u32>
     ensures value { result ≡ number_in text.now }
 {
     if text.is_empty() || text.len() > MAX_DIGITS || !are_digits(text) {

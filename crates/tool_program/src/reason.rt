@@ -3,13 +3,14 @@
 ghost use Rattle.std.specs.Prelude.{◌≡◌, OnOk};
 ghost use Rattle.std.specs.Io.KnownBytes.{Appends};
 ghost use Rattle.key_expr.specs.FaultWords.{expression_name, expression_words};
-ghost use Rattle.tool_program.specs.Reasons.{check_reason, key_reason, named_reason, order_reason, pair_reason, show_reason, text_reason as reason_of_text};
+ghost use Rattle.tool_program.specs.Reasons.{check_reason, journal_reason as reason_of_journal, key_reason, named_reason, order_reason, show_reason, table_reason, text_reason as reason_of_text};
 
 use crate::checking::CheckFault;
 use crate::order::OrderFault;
 use crate::showing::ShowFault;
-use answer_pairs::PairFault;
+use dbf_image::ImageFault;
 use folders::LoadFault;
+use journal_file::JournalFault;
 use key_expr::ExprFault;
 use std::io;
 use std::io::Write;
@@ -62,6 +63,18 @@ fn print_order<W: Write>(err: &mut W, path: &str, fault: OrderFault) -> io::Resu
     }
 }
 
+// Why the bytes of a file are no table, and what to do where the file of its memos is missing.
+fn print_table_fault<W: Write>(err: &mut W, why: ImageFault) -> io::Result<()>
+    ensures text { OnOk result (Appends (W.contents err.old) (W.contents err.new) (table_reason why)) }
+{
+    match why {
+        ImageFault::MemoFileMissing => err.write_all(
+            b"MemoFileMissing: the file of memos is missing: put it beside the table, or name it by --memo (diff: --memo-old, --memo-new)",
+        ),
+        why => print_named(err, why.name(), why.words()),
+    }
+}
+
 /// Prints why the file of a path, or its table, is not shown. Takes no memory. An error where a write fails.
 pub(crate) fn print_show_reason<W: Write>(
     err: &mut W,
@@ -73,7 +86,7 @@ pub(crate) fn print_show_reason<W: Write>(
     match fault {
         ShowFault::Load(why) => print_load(err, path, why),
         ShowFault::Memos(why) => print_load(err, path, why),
-        ShowFault::Table(why) => print_named(err, why.name(), why.words()),
+        ShowFault::Table(why) => print_table_fault(err, why),
         ShowFault::Order(why) => print_order(err, path, why),
         ShowFault::Text(why) => err.write_all(text_reason(why)),
     }
@@ -97,14 +110,13 @@ pub(crate) fn print_check_reason<W: Write>(
     }
 }
 
-/// Prints why an answer file is not paired with a script. Takes no memory. An error where a write fails.
-pub(crate) fn print_pair_reason<W: Write>(err: &mut W, fault: PairFault) -> io::Result<()>
-    ensures text { OnOk result (Appends (W.contents err.old) (W.contents err.new) (pair_reason fault)) }
+/// Why a file is no journal, after its path, as `station_audit` says it.
+pub(crate) fn journal_reason(fault: JournalFault) -> &'static [u8]
+    ensures value { result.now ≡ reason_of_journal fault }
 {
     match fault {
-        PairFault::NotTogether => err.write_all(b"these are no answers to this script"),
-        PairFault::TwoWays => err.write_all(b"a text of several lines can end in two places"),
-        PairFault::NoMemory => err.write_all(b"out of memory"),
+        JournalFault::Cut => b" is cut",
+        JournalFault::NoJournal => b" is no journal",
     }
 }
 

@@ -2,7 +2,7 @@
 
 ghost use Rattle.std.specs.Prelude.{◌≡◌, ◌++◌, OnOk};
 ghost use Rattle.std.specs.Fmt.{decimal};
-ghost use Rattle.tool_program.specs.Verdict.{file_words as words_of_file, index_words, open_words, unopened_words, table_words, verdict_line};
+ghost use Rattle.tool_program.specs.Verdict.{file_words as words_of_file, good_line as line_of_good, index_words, open_words, unopened_words, table_words, verdict_line};
 
 use catalogue_core::OpenFault;
 use office_run::{FileFault, ServeFault};
@@ -104,9 +104,9 @@ fn append_reason(alloc: Global, text: &mut Vec<u8>, fault: &ServeFault) -> Resul
     ensures ok { OnOk result (text.new.items ≡ text.old.items ++ unopened_words fault.now) }
 {
     match fault {
-        ServeFault::Setup(number) => {
+        ServeFault::Setup(bad) => {
             text.extend_from_slice(b"line ")?;
-            append_number(alloc, text, *number)?;
+            append_number(alloc, text, bad.number)?;
             text.extend_from_slice(b" of the setup is bad")
         }
         ServeFault::File(path, fault) => {
@@ -121,18 +121,31 @@ fn append_reason(alloc: Global, text: &mut Vec<u8>, fault: &ServeFault) -> Resul
     }
 }
 
-/// Appends the last line of a check: that the server opens all, or why it opens nothing.
+// That the server opens all, and if a day is open, when.
+fn good_line(is_day_open: bool) -> &'static [u8]
+    ensures value { result.now ≡ line_of_good is_day_open }
+{
+    if is_day_open {
+        b"good: the server opens all once the day is closed\n"
+    } else {
+        b"good: the server opens all\n"
+    }
+}
+
+/// Appends the last line of a check: that the server opens all, or why it opens nothing. While a day is open beside a table it opens all
+/// only once that is closed.
 ///
 /// An `Err` says that there was no memory.
 pub fn append_verdict(
     alloc: Global,
     text: &mut Vec<u8>,
+    is_day_open: bool,
     fault: &Option<ServeFault>,
 ) -> Result<(), AllocError>
-    ensures ok { OnOk result (text.new.items ≡ text.old.items ++ verdict_line fault.now) }
+    ensures ok { OnOk result (text.new.items ≡ text.old.items ++ verdict_line is_day_open fault.now) }
 {
     let Some(fault) = fault else {
-        return text.extend_from_slice(b"good: the server opens all\n");
+        return text.extend_from_slice(good_line(is_day_open));
     };
     text.extend_from_slice(b"bad: the server opens nothing: ")?;
     append_reason(alloc, text, fault)?;

@@ -1,13 +1,11 @@
 //! What sinks have that take a byte a write and fail after so many, or that take all.
 
 use super::sample::{index_of, write_into, written};
-use byte_io::{LimitedSink, MemorySink, WriteFault};
+use byte_io::{LimitedSink, WriteFault};
 use dbf_fields::{Field, NUMBER, Schema};
 use dbf_image::{GrowingTable, TableData};
-use index_text::write_tree;
 use key_expr::KeyExpr;
 use ndx_index::OrderedIndex;
-use sample_files::two_leaves;
 use std::alloc::Global;
 use std::process::Abort;
 use std::test::Fail;
@@ -63,30 +61,6 @@ fn small_pieces_are_gathered(rt: HostRuntime) -> Result<(), Fail> {
     let mut sink = LimitedSink::new(rt.alloc(), usize::MAX, u64::MAX);
     write_into(&mut sink, rt.alloc(), &index, 100)??;
     assert!(rt; sink.writes == 1 && sink.taken.bytes == written(rt.alloc(), &index, 100)?);
-    Ok(())
-}
-
-// Whether a sink that takes so many bytes has the front of a text that is written into it, and the answer says whether it took
-// all.
-fn has_tree_front(alloc: Global, file: &[u8], text: &[u8], taken: usize) -> bool {
-    let mut sink = limited(alloc, taken);
-    let answer = write_tree(alloc, &mut sink, file);
-    let wanted = if taken < text.len() {
-        Err(TextFault::Sink)
-    } else {
-        Ok(())
-    };
-    answer == wanted && has_front(&sink, text, taken)
-}
-
-#[test]
-fn failing_sink_has_the_front_of_a_tree(rt: HostRuntime) -> Result<(), Fail> {
-    let file = two_leaves(rt.alloc())?;
-    let mut sink = MemorySink::new(rt.alloc());
-    write_tree(rt.alloc(), &mut sink, &file)?;
-    for taken in 0..sink.bytes.len() + 1 {
-        assert!(rt; has_tree_front(rt.alloc(), &file, &sink.bytes, taken));
-    }
     Ok(())
 }
 

@@ -15,6 +15,6 @@ lines-preserved c =
       reads = c.in_ok-next_line.ensures.reads c.if-branch.true;
       more = omega (arith, inv.more, one);
       count_bounded = c.in_ok-add_line.ensures.count_bounded;
-      rest = more_lines c.args.plan.now.cut c.args.plan.now.heading _ (old - first + 2) (new - first + 2) c.lines.table.table c.add_line.new.table.table _ _ _
+      rest = more_lines c.args.plan.now.form c.args.plan.now.heading _ (old - first + 2) (new - first + 2) c.lines.table.table c.add_line.new.table.table _ _ _
           c.in_ok-add_line.ensures.ok taken (omega (arith, c.record_count.ensures.count, c.record_count-first.ensures.count)) (omega (arith, inv.more, one)) ∙ inv.rest;
     }

@@ -10,8 +10,8 @@ invariant-lines l = record {
   reads : ReadsCsv l.reader;
   more : length l.fn.table.table.rows ≤ length l.table.table.rows;
   count_bounded : length l.table.table.rows ≤ MAX_RECORDS;
-  rest : with_lines l.plan.cut l.plan.heading (length l.table.table.rows - length l.fn.table.table.rows + 2) l.table.table (lines_left l.reader)
-      ≡ with_lines l.plan.cut l.plan.heading 2 l.fn.table.table (lines_left l.fn.reader);
+  rest : with_lines l.plan.form l.plan.heading (length l.table.table.rows - length l.fn.table.table.rows + 2) l.table.table (lines_left l.reader)
+      ≡ with_lines l.plan.form l.plan.heading 2 l.fn.table.table (lines_left l.fn.reader);
 }
 
 abbrev pub decreases-lines : goal.decreases-lines

@@ -29,9 +29,9 @@ loop-index-preserved c =
     c.append_blank.ensures.value ∙ ap (λ (t : Table). with_row t (blank_row t.schema)) c.in_ok-reserve_record.ensures.table in
     let last : number ≡ length table.rows + 1 =
     c.record_count-number.ensures.count ∙ ap (λ (t : Table). length t.rows) added ∙ rows_of_last table (blank_row table.schema) in
-    let said : value_of c.args.plan.now.cut field (text_for c.args.plan.now.heading cells index) ≡ Ok cell =
-    ap (value_of c.args.plan.now.cut field) (sym c.text_for-text.ensures.value) ∙ put in (
+    let said : value_of c.args.plan.now.form field (text_for c.args.plan.now.heading cells index) ≡ Ok cell =
+    ap (value_of c.args.plan.now.form field) (sym c.text_for-text.ensures.value) ∙ put in (
       row_with_cell row index cell,
       new ∙ ap (λ (t : Table). with_cell t number index cell) is ∙ cell_of_last table row number index cell last,
-      field_filled c.args.plan.now.cut c.args.plan.now.heading c.args.line index cells c.fields-fields.result.now field row cell c.loop-index-test.true (sym c.index-fields-index.is) said ∙ rest,
+      field_filled c.args.plan.now.form c.args.plan.now.heading c.args.line index cells c.fields-fields.result.now field row cell c.loop-index-test.true (sym c.index-fields-index.is) said ∙ rest,
     )

@@ -20,11 +20,11 @@ returns-clause-ok c =
     let (row, filled_so, added) = c.in_ok-add_filled.ensures.ok in
     let many : length cells ≡ plan.heading.count = sym c.len.ensures ∙ (c.if-len-count.false ∙ c.count.ensures.value) in
     let room : length table.rows < MAX_RECORDS = omega (arith, c.if-record_count-ge-MAX_RECORDS.false, c.record_count.ensures.count) in
-    let said : filled plan.cut plan.heading line cells 0 table.schema (blank_row table.schema) ≡ Ok row =
-    ap (λ (fields : List Field). filled plan.cut plan.heading line cells 0 fields (blank_row fields)) (sym c.requires.schema) ∙ filled_so in
+    let said : filled plan.form plan.heading line cells 0 table.schema (blank_row table.schema) ≡ Ok row =
+    ap (λ (fields : List Field). filled plan.form plan.heading line cells 0 fields (blank_row fields)) (sym c.requires.schema) ∙ filled_so in
     let mark : mark_said line (text_in_column cells plan.heading.of_marks) ≡ Ok deleted =
     ap (mark_said line) (sym c.mark_in.ensures.value) ∙ sym c.in_ok-deleted.ensures.value in
     let last : number ≡ length table.rows + 1 =
     c.record_count-number.ensures.count ∙ ap (λ (t : Table). length t.rows) added ∙ rows_of_last table row in
     let new = c.set_deleted.ensures.value ∙ ap (λ (t : Table). with_mark t number deleted) added ∙ mark_of_last table row number deleted last in
-    line_added plan.cut plan.heading line table _ cells row deleted many room said mark new
+    line_added plan.form plan.heading line table _ cells row deleted many room said mark new

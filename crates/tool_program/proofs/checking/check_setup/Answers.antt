@@ -60,7 +60,9 @@ returns-clause-told g c =
     } in
     let report = rw (c.deref-2.ensures.value, c.deref-3.ensures.value) at c.in_ok-report.ensures.value in
     let kept = rw c.deref-4.ensures.value at c.in_ok-kept.ensures.value in
-    let whole = parts_appended _ _ _ _ _ _ _ _ _ _ _ _ _ _ report kept c.deref-5.ensures.value c.in_ok-extend_from_slice.ensures.items c.deref-8.ensures.value c.in_ok-extend_from_slice-2.ensures.items c.deref-11.ensures.value c.in_ok-extend_from_slice-3.ensures.items c.in_ok-append_verdict.ensures.ok in
+    let whole = parts_appended _ _ _ _ _ _ _ _ _ _ _ _ _ _ report kept c.deref-5.ensures.value c.in_ok-extend_from_slice.ensures.items c.deref-8.ensures.value
+    c.in_ok-extend_from_slice-2.ensures.items c.deref-11.ensures.value c.in_ok-extend_from_slice-3.ensures.items
+    (rw c.is_day_told.ensures.value at c.in_ok-append_verdict.ensures.ok) in
     record {
       entries = entries;
       reads = reads;

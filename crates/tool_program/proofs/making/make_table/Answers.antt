@@ -7,7 +7,7 @@ use Rattle.tool_program.proofs.MadeLaws.{told_exists, told_unread}
 use Rattle.tool_program.proofs.making.make_table.Goals as goal
 
 pub returns-in-Ok-clause-made : goal.returns-in-Ok-clause-made
-returns-in-Ok-clause-made g c = (c.in_ok-job.job, c.in_ok-job.ensures.job, c.in-Ok.ensures.made)
+returns-in-Ok-clause-made g c = (c.in_ok-job.job, c.in_ok-job.ensures.job, c.in-Ok.ensures.inputs, c.in-Ok.ensures.made)
 
 pub returns-in-Err-clause-taken : goal.returns-in-Err-clause-taken
 returns-in-Err-clause-taken g c told =

@@ -1,0 +1,2 @@
+-- Lemmas for the contracts of the crate.
+pub mod EntryLaws

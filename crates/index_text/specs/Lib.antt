@@ -1,4 +1,0 @@
-pub mod Shown
-pub mod HeaderText
-pub mod PageText
-pub mod TreeText
