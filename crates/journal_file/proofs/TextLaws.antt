@@ -180,7 +180,7 @@ pub tail_pushed : (before after whole : List ℕ) (sums : List FileSum) → befo
 tail_pushed before after whole sums none pushed ended =
     ended ∙ (ap (λ (l : List ℕ). l ++ end_line) (pushed ∙ ap (λ (l : List ℕ). l ++ sums_and wrote_word sums []) none) ∙ sums_then wrote_word sums [] end_line)
 
-reindex_then : (flag : Bool) (rest : List ℕ) → reindex_and flag [] ++ rest ≡ reindex_and flag rest
+pub reindex_then : (flag : Bool) (rest : List ℕ) → reindex_and flag [] ++ rest ≡ reindex_and flag rest
 reindex_then true rest = refl
 reindex_then false rest = refl
 

@@ -10,6 +10,8 @@ use Rattle.station_lines.specs.JournalLines.{lines_and, HaveSmallNumbers}
 use Rattle.journal_file.specs.declared.sum.FileSum.{FileSum}
 use Rattle.journal_file.specs.declared.sum.TheConstants.{DIGEST_LEN}
 use Rattle.journal_file.specs.declared.cutting.JournalParts.{JournalParts}
+use Rattle.journal_file.specs.declared.reads.ReadsFault.{ReadsFault}
+use Rattle.journal_file.specs.declared.reads.ReadsFault.TheVariants.{File, Reindex, NoMemory}
 
 -- ---- what is said of a file
 
@@ -62,6 +64,10 @@ pub record WholeJournal : Type 0 where
 abbrev pub reindex_and : Bool → List ℕ → List ℕ
 reindex_and true rest = codes "reindex yes" ++ (LF ∷ rest)
 reindex_and false rest = codes "reindex no" ++ (LF ∷ rest)
+
+-- the lines of the files that were read, whether the indexes were made anew, and what stands after them
+abbrev pub reads_and : List FileSum → Bool → List ℕ → List ℕ
+reads_and read reindex rest = sums_and read_word read (reindex_and reindex rest)
 
 -- the word before the number of entries
 abbrev pub entries_word : List ℕ
@@ -119,6 +125,25 @@ has_front front text = bytes_eq front (take (length front) text)
 abbrev pub begins_as_journal : List ℕ → Bool
 begins_as_journal text = has_front read_word text || has_front text read_word
 
+-- ---- the lines of given files
+
+-- The lines of the files before the one at this place are first in the text, and then not its own.
+pub record IsOtherFile (text : List ℕ) (read : List FileSum) (place : ℕ) : Type 0 where
+  pub before : List FileSum
+  pub sum : FileSum
+  pub after : List FileSum
+  pub rest : List ℕ
+  pub order : read ≡ before ++ sum ∷ after
+  pub place_is : place ≡ length before
+  pub is : text ≡ sums_and read_word before rest
+  pub other : (more : List ℕ) → rest ≢ sum_and read_word sum more
+
+-- why the lines of these files, and whether the indexes were made anew, are not first in the text
+abbrev pub IsReadsFault : List ℕ → List FileSum → Bool → ReadsFault → Type 0
+IsReadsFault text read reindex (File place) = IsOtherFile text read place
+IsReadsFault text read reindex Reindex = (rest : List ℕ) × (text ≡ sums_and read_word read rest) × ((more : List ℕ) → rest ≢ reindex_and reindex more)
+IsReadsFault text read reindex NoMemory = Unit {0}
+
 -- ---- its steps
 
 -- a file's line is first
@@ -141,6 +166,17 @@ pub record BeginsWithSums (word text lines rest : List ℕ) : Type 0 where
 -- whether the indexes were made anew is not first
 abbrev pub BeginsWithNoReindex : List ℕ → Type 0
 BeginsWithNoReindex text = (reindex : Bool) (rest : List ℕ) → text ≢ reindex_and reindex rest
+
+-- the lines of files that were read, and whether the indexes were made anew, are first
+pub record BeginsWithReads (text rest : List ℕ) : Type 0 where
+  pub sums : List FileSum
+  pub are : AllByRecursion IsSum sums
+  pub reindex : Bool
+  pub is : text ≡ reads_and sums reindex rest
+
+-- no such lines are first
+abbrev pub BeginsWithNoReads : List ℕ → Type 0
+BeginsWithNoReads text = (sums : List FileSum) (reindex : Bool) (rest : List ℕ) → AllByRecursion IsSum sums → text ≢ reads_and sums reindex rest
 
 -- the number of entries is first
 pub record BeginsWithCount (text : List ℕ) (count : ℕ) (rest : List ℕ) : Type 0 where

@@ -2,7 +2,7 @@
 
 ghost use Rattle.std.specs.Prelude.{◌≡◌, ◌≢◌, ◌++◌, true, false, ℕ, List, Ok, Err, IfOk, IfErr, IfSome, IfNone, IsTrue, ◌↔◌, ◌==◌, position};
 ghost use Rattle.station_lines.specs.declared.script.format.TheConstants.{LF as LINE_END};
-ghost use Rattle.journal_file.specs.WholeText.{sum_as, read_word, wrote_word, reindex_and, end_line, whole_text, begins_as_journal, WholeJournal, CanBeTold, IsCutInto, IsNotWhole, BeginsWithSum, BeginsWithNoSum, BeginsWithSums, BeginsWithNoReindex, BeginsWithCount, BeginsWithNoCount, BeginsWithHead, BeginsWithNoHead, BeginsWithEntries, BeginsWithFewer, IsTail, IsNoTail};
+ghost use Rattle.journal_file.specs.WholeText.{sum_as, read_word, wrote_word, reindex_and, end_line, whole_text, begins_as_journal, WholeJournal, CanBeTold, IsCutInto, IsNotWhole, BeginsWithSum, BeginsWithNoSum, BeginsWithSums, BeginsWithNoReindex, BeginsWithReads, BeginsWithNoReads, BeginsWithCount, BeginsWithNoCount, BeginsWithHead, BeginsWithNoHead, BeginsWithEntries, BeginsWithFewer, IsTail, IsNoTail};
 
 use crate::sum::DIGEST_LEN;
 use dbf_fields::BLANK;
@@ -48,8 +48,8 @@ pub struct CutSum<'a> {
     pub rest: &'a [u8],
 }
 
-// What stands after this word, where it is first.
-fn after_word<'a>(text: &'a [u8], word: &[u8]) -> Option<&'a [u8]>
+/// What stands after this word, where it is first in a text. `None` where it is not. Takes no memory.
+pub fn after_word<'a>(text: &'a [u8], word: &[u8]) -> Option<&'a [u8]>
     ensures found { IfSome result (λ rest. text.now ≡ word.now ++ rest.now) }
     ensures none { IfNone result ((rest : List ℕ) → text.now ≢ word.now ++ rest) }
 {
@@ -124,6 +124,20 @@ fn cut_reindex(text: &[u8]) -> Option<(bool, &[u8])>
     }
     match after_word(text, b"reindex no\n") {
         Some(rest) => Some((false, rest)),
+        None => None,
+    }
+}
+
+/// What stands after the lines of files that were read, and after the one that says whether the indexes were made anew. `None` where such
+/// lines are not first. Takes no memory.
+#[tactic(auto, using(crate::proofs::ReadLaws::any_reads, crate::proofs::ReadLaws::no_reads))]
+pub fn after_any_reads(text: &[u8]) -> Option<&[u8]>
+    ensures found { IfSome result (λ rest. BeginsWithReads text.now rest.now) }
+    ensures none { IfNone result (BeginsWithNoReads text.now) }
+{
+    let (_, rest) = cut_sums(text, b"read ");
+    match cut_reindex(rest) {
+        Some((_, rest)) => Some(rest),
         None => None,
     }
 }

@@ -17,19 +17,23 @@
 //!
 //! [`sum_of`] says of a file what its line tells, and [`SumSink`] of a file that is written into it. [`head_text`] and
 //! [`tail_text`] make the lines before and after the entries, and [`cut_journal`] cuts a whole text back into its parts, in one
-//! way; [`cut_read_sum`] and [`cut_wrote_sum`] cut off the line of a file. Start with specs/WholeText.antt.
+//! way; [`cut_read_sum`] and [`cut_wrote_sum`] cut off the line of a file. The lines of the files that were read stand in front of the log of a
+//! live day too: [`read_text`] makes them, and [`after_reads`] compares them. Start with specs/WholeText.antt.
 #![tactic(auto)]
 
 mod cutting;
 mod read_sums;
+mod reads;
 mod sum;
 mod sum_sink;
 mod writing;
 
 pub use cutting::{
-    CutSum, JournalFault, JournalParts, cut_journal, cut_read_sum, cut_wrote_sum, one_whole_text,
+    CutSum, JournalFault, JournalParts, after_any_reads, after_word, cut_journal, cut_read_sum,
+    cut_wrote_sum, one_whole_text,
 };
 pub use read_sums::ReadSums;
+pub use reads::{ReadsFault, after_reads};
 pub use sum::{DIGEST_LEN, FileSum, sum_of};
 pub use sum_sink::SumSink;
-pub use writing::{head_text, tail_text};
+pub use writing::{head_text, read_text, tail_text};

@@ -1,7 +1,7 @@
 //! The lines before and after a journal's entries.
 
 ghost use Rattle.std.specs.Prelude.{◌≡◌, ◌++◌, [], IfOk, OnOk};
-ghost use Rattle.journal_file.specs.WholeText.{sum_and, sums_and, reindex_and, head_and, tail_text as text_of_tail};
+ghost use Rattle.journal_file.specs.WholeText.{sum_and, sums_and, reads_and, reindex_and, head_and, tail_text as text_of_tail};
 
 use crate::sum::FileSum;
 use byte_io::Bytes;
@@ -10,7 +10,12 @@ use station_lines::LF;
 use std::alloc::{AllocError, Global};
 
 // Adds the line of a file, behind a word.
-fn push_sum(alloc: Global, text: &mut Vec<u8>, word: &[u8], sum: &FileSum) -> Result<(), AllocError>
+pub(crate) fn push_sum(
+    alloc: Global,
+    text: &mut Vec<u8>,
+    word: &[u8],
+    sum: &FileSum,
+) -> Result<(), AllocError>
     ensures pushed { OnOk result (text.new.items ≡ text.old.items ++ sum_and word.now sum.now []) }
 {
     let path_len = sum.path.as_slice().len();
@@ -41,7 +46,7 @@ fn push_sums(
 }
 
 // The line that says whether the indexes were made anew.
-fn reindex_line(reindex: bool) -> &'static [u8]
+pub(crate) fn reindex_line(reindex: bool) -> &'static [u8]
     ensures value { result.now ≡ reindex_and reindex [] }
 {
     if reindex {
@@ -49,6 +54,16 @@ fn reindex_line(reindex: bool) -> &'static [u8]
     } else {
         b"reindex no\n"
     }
+}
+
+/// The lines of the files that were read, and after them whether the indexes were made anew. An error where memory is refused.
+pub fn read_text(alloc: Global, read: &[FileSum], reindex: bool) -> Result<Bytes, AllocError>
+    ensures value { IfOk result (λ text. text ≡ reads_and read.now reindex []) }
+{
+    let mut text = Vec::new(alloc);
+    push_sums(alloc, &mut text, b"read ", read)?;
+    text.extend_from_slice(reindex_line(reindex))?;
+    Ok(Bytes::from_vec(text))
 }
 
 /// The lines before a journal's entries: the files that the run read, whether it made the indexes anew, and how many entries

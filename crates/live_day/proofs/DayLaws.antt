@@ -35,12 +35,12 @@ since_more old new on = ap (λ (es : List Entry). drop (length old.journal) es) 
 
 module _ {D : Type 0} (m : DiskMeaning D) (old new : DayValue D) where
   -- what a crash leaves where nothing was put to the log
-  pub any_none : new.log ≡ old.log → IsSyncedDisk m old.log.disk → HasLog old.log.name (parts_of old.history.journal) (m.seen old.log.disk)
-      → LeavesOnly m old.log.disk new.log.disk (IsLogPut old.log.name (m.seen old.log.disk) (parts_of old.history.journal) (parts_of (entries_since old.history new.history)))
+  pub any_none : new.log ≡ old.log → IsSyncedDisk m old.log.disk → HasLog old.log.name old.log.head (parts_of old.history.journal) (m.seen old.log.disk)
+      → LeavesOnly m old.log.disk new.log.disk (IsLogPut old.log.name old.log.head (m.seen old.log.disk) (parts_of old.history.journal) (parts_of (entries_since old.history new.history)))
   any_none same synced logged =
-      let P : Folder → Type 0 = IsLogPut old.log.name (m.seen old.log.disk) (parts_of old.history.journal) (parts_of (entries_since old.history new.history)) in
+      let P : Folder → Type 0 = IsLogPut old.log.name old.log.head (m.seen old.log.disk) (parts_of old.history.journal) (parts_of (entries_since old.history new.history)) in
       subst (λ (l : LogValue D). LeavesOnly m old.log.disk l.disk P) (sym same)
-      (nothing_put m old.log.name old.log.disk (parts_of old.history.journal) (parts_of (entries_since old.history new.history)) synced logged)
+      (nothing_put m old.log.name old.log.disk old.log.head (parts_of old.history.journal) (parts_of (entries_since old.history new.history)) synced logged)
 
 -- what an answer is by the one meaning of a line, it is by each
 pub by_one : (P : Line → Option (List ℕ) → Type 0) (Q : Line → Type 0) (m : Line) (r : Result (Option (List ℕ)) LineFault) → ((other : Line) → Q other → other ≡ m)
@@ -56,8 +56,8 @@ rest_is first second h next is then_is =
 
 module _ {D : Type 0} (m : DiskMeaning D) (h next : History) (l now : LogValue D) (same : now ≡ l) (entries : List Entry) (is : entries ≡ entries_since h next) where
   -- what a crash leaves while these entries are put
-  pub put_moment : (disk : D) → LeavesOnly m now.disk disk (IsLogPut now.name (m.seen now.disk) (parts_of h.journal) (map line_parts entries))
-      → LeavesOnly m l.disk disk (IsLogPut l.name (m.seen l.disk) (parts_of h.journal) (parts_of (entries_since h next)))
+  pub put_moment : (disk : D) → LeavesOnly m now.disk disk (IsLogPut now.name now.head (m.seen now.disk) (parts_of h.journal) (map line_parts entries))
+      → LeavesOnly m l.disk disk (IsLogPut l.name l.head (m.seen l.disk) (parts_of h.journal) (parts_of (entries_since h next)))
   put_moment disk leaves =
-      subst (λ (es : List Entry). LeavesOnly m l.disk disk (IsLogPut l.name (m.seen l.disk) (parts_of h.journal) (map line_parts es))) is
-      (subst (λ (x : LogValue D). LeavesOnly m x.disk disk (IsLogPut x.name (m.seen x.disk) (parts_of h.journal) (map line_parts entries))) same leaves)
+      subst (λ (es : List Entry). LeavesOnly m l.disk disk (IsLogPut l.name l.head (m.seen l.disk) (parts_of h.journal) (map line_parts es))) is
+      (subst (λ (x : LogValue D). LeavesOnly m x.disk disk (IsLogPut x.name x.head (m.seen x.disk) (parts_of h.journal) (map line_parts entries))) same leaves)

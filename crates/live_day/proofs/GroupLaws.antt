@@ -1,5 +1,5 @@
 -- Lines that are there together are read, and obeyed one after another.
-use Rattle.std.proofs.Common.{◌≡◌, ◌≢◌, ◌⊎◌, inl, inr, ◌<◌, ◌≤◌, ◌+◌, ℕ, Bool, true, false, List, [], ◌∷◌, ◌++◌, length, take, drop, get_or, Option, Some, None, OnSome, refl, sym, ◌∙◌, ap, subst, arith, append_assoc}
+use Rattle.std.proofs.Common.{◌≡◌, ◌⊎◌, inl, inr, ◌<◌, ◌≤◌, ◌+◌, ℕ, Bool, true, false, List, [], ◌∷◌, ◌++◌, length, take, drop, get_or, Option, Some, None, OnSome, refl, sym, ◌∙◌, ap, subst, arith, append_assoc}
 use Rattle.std.specs.Prelude.{MatchOption}
 use Rattle.std.specs.List.{AllByRecursion}
 use Rattle.std.specs.Io.KnownBytes.{IsAtEnd}
@@ -248,7 +248,10 @@ group_ends ended a b c t u v lines lines_now Over same read has group = (
   group.2 ∙ ap (λ (l : List Typed). l ++ group.0) (append-nil u ∙ read ∙ ap (λ (l : List Typed). t ++ l) (sym same)),
   typed_both a b c t u v has group.3,
 )
-group_ends ended a b c t u v lines lines_now (Failed fault) same read has group = tt
+group_ends ended a b c t u v lines lines_now (Failed fault) same read has group = (
+  group.0 ∙ append-nil u ∙ read ∙ ap (λ (l : List Typed). t ++ l) (sym same),
+  (group.1.0, typed_both a b group.1.0 t u v has group.1.1),
+)
 
 -- The lines of a group that were read up to now.
 pub record HasReadGroup (a b : Option (List ℕ)) (t u lines : List Typed) : Type 0 where

@@ -1,9 +1,10 @@
 mod DayLaws
 mod GroupLaws
-mod SessionLaws
+pub mod SessionLaws
 mod ShowLaws
 mod SinceLaws
 mod StartLaws
 mod StopLaws
+pub mod StoppedLaws
 mod TypingLaws
 mod WaitingLaws

@@ -1,5 +1,5 @@
 -- What was shown is kept, as a day goes on.
-use Rattle.std.proofs.Common.{◌≡◌, ◌≢◌, ◌⊎◌, inl, inr, ⊎_elim, ◌≤◌, ◌+◌, ℕ, List, [], ◌∷◌, ◌++◌, length, take, map, refl, sym, ◌∙◌, ap, subst, arith, append_assoc, length-append}
+use Rattle.std.proofs.Common.{◌≡◌, ◌≢◌, ◌⊎◌, inl, inr, ⊎_elim, ◌≤◌, ℕ, List, [], ◌∷◌, ◌++◌, length, take, map, Some, refl, sym, ◌∙◌, ap, subst, arith, append_assoc, length-append}
 use Rattle.std.specs.List.{AllByRecursion}
 use Rattle.std.proofs.lemmas.List.{append-nil, map-append, take-append-le, take_all}
 use Rattle.catalogue_core.specs.declared.entry.Entry.{Entry}
@@ -32,8 +32,8 @@ length-parts (e ∷ es) = omega (arith, length-parts es)
 -- ---- the journal's first entries
 
 -- they are the first of a longer journal too
-front_more : (name : Name) (least : ℕ) (journal next more : List LineParts) (c : Folder) → next ≡ journal ++ more → HasFront name least journal c → HasFront name least next c
-front_more name least journal next more c is has = record {
+front_more : (name : Name) (head : List ℕ) (least : ℕ) (journal next more : List LineParts) (c : Folder) → next ≡ journal ++ more → HasFront name head least journal c → HasFront name head least next c
+front_more name head least journal next more c is has = record {
   log = has.log;
   there = has.there;
   front = has.front;
@@ -43,10 +43,11 @@ front_more name least journal next more c is has = record {
   enough = has.enough;
 }
 
-pub front_less : (name other : Name) (least fewer : ℕ) (journal : List LineParts) (c : Folder) → other ≡ name → fewer ≤ least → HasFront name least journal c → HasFront other fewer journal c
-front_less name other least fewer journal c same le has = record {
+pub front_less : (name other : Name) (head again : List ℕ) (least fewer : ℕ) (journal : List LineParts) (c : Folder) → other ≡ name → again ≡ head → fewer ≤ least → HasFront name head least journal c
+    → HasFront other again fewer journal c
+front_less name other head again least fewer journal c same still le has = record {
   log = has.log;
-  there = ap c same ∙ has.there;
+  there = ap c same ∙ has.there ∙ ap (λ (l : List ℕ). Some (l ++ has.log)) (sym still);
   front = has.front;
   rest = has.rest;
   order = has.order;
@@ -55,8 +56,9 @@ front_less name other least fewer journal c same le has = record {
 }
 
 -- a crash while a group was put
-front_of_put : (name : Name) (folder c : Folder) (es group journal : List LineParts) (least : ℕ) → least ≡ length es → journal ≡ es ++ group → IsLogPut name folder es group c → HasFrontIn name least journal folder c
-front_of_put name folder c es group journal least count is put = record {
+front_of_put : (name : Name) (head : List ℕ) (folder c : Folder) (es group journal : List LineParts) (least : ℕ) → least ≡ length es → journal ≡ es ++ group → IsLogPut name head folder es group c
+    → HasFrontIn name head least journal folder c
+front_of_put name head folder c es group journal least count is put = record {
   kept = elim put.stands [
     | inl stands ↦ record {
       log = put.log;
@@ -96,7 +98,7 @@ at_count_all h = ap (λ (es : List Entry). history h.opened es) (take_all (lengt
 module _ {D : Type 0} (m : DiskMeaning D) where
   -- what a crash leaves where the log on the disk is that of the journal, and all that is seen is on the disk
   pub front_now : (day : DayValue D) → IsLogged m day → IsSyncedDisk m day.log.disk → (c : Folder) → m.may_leave day.log.disk c
-      → HasFrontIn day.log.name (length day.history.journal) (parts_of day.history.journal) (m.seen day.log.disk) c
+      → HasFrontIn day.log.name day.log.head (length day.history.journal) (parts_of day.history.journal) (m.seen day.log.disk) c
   front_now day logged synced c left = record {
     kept = record {
       log = log_of (parts_of day.history.journal);
@@ -115,28 +117,30 @@ module _ {D : Type 0} (m : DiskMeaning D) where
   pub after_none : (day : DayValue D) → (m.keeps_promises → IsLogged m day) → (m.keeps_promises → IsSyncedDisk m day.log.disk) → IsDayAfter m day day
   after_none day logged synced = record {
     name = refl;
+    head = refl;
     history = record { opened = refl; more = []; journal = sym (append-nil day.history.journal) };
     others = λ n other. refl;
-    moments = λ keeps. started m day.log.disk (HasFrontIn day.log.name (length day.history.journal) (parts_of day.history.journal) (m.seen day.log.disk))
+    moments = λ keeps. started m day.log.disk (HasFrontIn day.log.name day.log.head (length day.history.journal) (parts_of day.history.journal) (m.seen day.log.disk))
         (front_now day (logged keeps) (synced keeps));
   }
 
-  pub after_put : (old new : DayValue D) → new.log.name ≡ old.log.name → HasGoneOn old.history new.history → SameBut old.log.name (m.seen old.log.disk) (m.seen new.log.disk)
-      → (m.keeps_promises → LeavesOnly m old.log.disk new.log.disk (IsLogPut old.log.name (m.seen old.log.disk) (parts_of old.history.journal) (parts_of (entries_since old.history new.history))))
+  pub after_put : (old new : DayValue D) → new.log.name ≡ old.log.name → new.log.head ≡ old.log.head → HasGoneOn old.history new.history → SameBut old.log.name (m.seen old.log.disk) (m.seen new.log.disk)
+      → (m.keeps_promises → LeavesOnly m old.log.disk new.log.disk (IsLogPut old.log.name old.log.head (m.seen old.log.disk) (parts_of old.history.journal) (parts_of (entries_since old.history new.history))))
       → IsDayAfter m old new
-  after_put old new name on others moments =
+  after_put old new name head on others moments =
       let group = parts_of (entries_since old.history new.history) in
       let is : parts_of new.history.journal ≡ parts_of old.history.journal ++ group =
       parts_more old.history new.history on ∙ ap (λ (es : List Entry). parts_of old.history.journal ++ parts_of es) (sym (since_more old.history new.history on)) in
       record {
         name = name;
+        head = head;
         history = on;
         others = others;
         moments = λ keeps. leaves_by m old.log.disk new.log.disk
-            (IsLogPut old.log.name (m.seen old.log.disk) (parts_of old.history.journal) group)
-            (HasFrontIn old.log.name (length old.history.journal) (parts_of new.history.journal) (m.seen old.log.disk))
+            (IsLogPut old.log.name old.log.head (m.seen old.log.disk) (parts_of old.history.journal) group)
+            (HasFrontIn old.log.name old.log.head (length old.history.journal) (parts_of new.history.journal) (m.seen old.log.disk))
             (moments keeps)
-            (λ c put. front_of_put old.log.name (m.seen old.log.disk) c (parts_of old.history.journal) group (parts_of new.history.journal) (length old.history.journal)
+            (λ c put. front_of_put old.log.name old.log.head (m.seen old.log.disk) c (parts_of old.history.journal) group (parts_of new.history.journal) (length old.history.journal)
             (sym (length-parts old.history.journal)) is put);
       }
 
@@ -144,17 +148,17 @@ module _ {D : Type 0} (m : DiskMeaning D) where
     longer : length a.history.journal ≤ length b.history.journal
     longer = omega (arith, ap length first.history.journal, length-append a.history.journal first.history.more)
 
-    later : (x : Folder) → HasFrontIn b.log.name (length b.history.journal) (parts_of c.history.journal) (m.seen b.log.disk) x
-        → HasFrontIn a.log.name (length a.history.journal) (parts_of c.history.journal) (m.seen a.log.disk) x
+    later : (x : Folder) → HasFrontIn b.log.name b.log.head (length b.history.journal) (parts_of c.history.journal) (m.seen b.log.disk) x
+        → HasFrontIn a.log.name a.log.head (length a.history.journal) (parts_of c.history.journal) (m.seen a.log.disk) x
     later x has = record {
-      kept = front_less b.log.name a.log.name (length b.history.journal) (length a.history.journal) (parts_of c.history.journal) x (sym first.name) longer has.kept;
+      kept = front_less b.log.name a.log.name b.log.head a.log.head (length b.history.journal) (length a.history.journal) (parts_of c.history.journal) x (sym first.name) (sym first.head) longer has.kept;
       elsewhere = λ n other. has.elsewhere n (λ is. other (is ∙ first.name)) ∙ first.others n other;
     }
 
-    earlier : (x : Folder) → HasFrontIn a.log.name (length a.history.journal) (parts_of b.history.journal) (m.seen a.log.disk) x
-        → HasFrontIn a.log.name (length a.history.journal) (parts_of c.history.journal) (m.seen a.log.disk) x
+    earlier : (x : Folder) → HasFrontIn a.log.name a.log.head (length a.history.journal) (parts_of b.history.journal) (m.seen a.log.disk) x
+        → HasFrontIn a.log.name a.log.head (length a.history.journal) (parts_of c.history.journal) (m.seen a.log.disk) x
     earlier x has = record {
-      kept = front_more a.log.name (length a.history.journal) (parts_of b.history.journal) (parts_of c.history.journal) (parts_of second.history.more) x
+      kept = front_more a.log.name a.log.head (length a.history.journal) (parts_of b.history.journal) (parts_of c.history.journal) (parts_of second.history.more) x
           (parts_more b.history c.history second.history) has.kept;
       elsewhere = has.elsewhere;
     }
@@ -162,6 +166,7 @@ module _ {D : Type 0} (m : DiskMeaning D) where
     pub after_both : IsDayAfter m a c
     after_both = record {
       name = second.name ∙ first.name;
+      head = second.head ∙ first.head;
       history = record {
         opened = second.history.opened ∙ first.history.opened;
         more = first.history.more ++ second.history.more;
@@ -170,11 +175,11 @@ module _ {D : Type 0} (m : DiskMeaning D) where
       };
       others = λ n other. second.others n (λ is. other (is ∙ first.name)) ∙ first.others n other;
       moments = λ keeps. runs_on m a.log.disk b.log.disk c.log.disk
-          (HasFrontIn a.log.name (length a.history.journal) (parts_of c.history.journal) (m.seen a.log.disk))
-          (HasFrontIn b.log.name (length b.history.journal) (parts_of c.history.journal) (m.seen b.log.disk))
+          (HasFrontIn a.log.name a.log.head (length a.history.journal) (parts_of c.history.journal) (m.seen a.log.disk))
+          (HasFrontIn b.log.name b.log.head (length b.history.journal) (parts_of c.history.journal) (m.seen b.log.disk))
           (leaves_by m a.log.disk b.log.disk
-          (HasFrontIn a.log.name (length a.history.journal) (parts_of b.history.journal) (m.seen a.log.disk))
-          (HasFrontIn a.log.name (length a.history.journal) (parts_of c.history.journal) (m.seen a.log.disk))
+          (HasFrontIn a.log.name a.log.head (length a.history.journal) (parts_of b.history.journal) (m.seen a.log.disk))
+          (HasFrontIn a.log.name a.log.head (length a.history.journal) (parts_of c.history.journal) (m.seen a.log.disk))
           (first.moments keeps) earlier)
           (second.moments keeps) later;
     }
@@ -192,15 +197,15 @@ module _ {D : Type 0} (m : DiskMeaning D) where
         let same : (n : Name) → n ≢ c.log.name → m.seen b.log.disk n ≡ m.seen c.log.disk n = λ n other. sym (on.others n (λ is. other (is ∙ sym on.name))) in
         ⊎_elim
         (λ (was : m.left_since b.log.disk s.moment x).
-        let had : HasFrontIn b.log.name s.count (parts_of b.history.journal) (m.seen b.log.disk) x = kept.kept keeps x was in
+        let had : HasFrontIn b.log.name b.log.head s.count (parts_of b.history.journal) (m.seen b.log.disk) x = kept.kept keeps x was in
         record {
-          kept = subst (λ (n : Name). HasFront n s.count (parts_of c.history.journal) x) (sym on.name)
-              (front_more b.log.name s.count (parts_of b.history.journal) (parts_of c.history.journal) (parts_of on.history.more) x next had.kept);
+          kept = front_less b.log.name c.log.name b.log.head c.log.head s.count s.count (parts_of c.history.journal) x on.name on.head (omega arith)
+              (front_more b.log.name b.log.head s.count (parts_of b.history.journal) (parts_of c.history.journal) (parts_of on.history.more) x next had.kept);
           elsewhere = λ n other. had.elsewhere n (λ is. other (is ∙ sym on.name)) ∙ same n other;
         })
-        (λ (now : HasFrontIn b.log.name (length b.history.journal) (parts_of c.history.journal) (m.seen b.log.disk) x).
+        (λ (now : HasFrontIn b.log.name b.log.head (length b.history.journal) (parts_of c.history.journal) (m.seen b.log.disk) x).
         record {
-          kept = front_less b.log.name c.log.name (length b.history.journal) s.count (parts_of c.history.journal) x on.name kept.among now.kept;
+          kept = front_less b.log.name c.log.name b.log.head c.log.head (length b.history.journal) s.count (parts_of c.history.journal) x on.name on.head kept.among now.kept;
           elsewhere = λ n other. now.elsewhere n (λ is. other (is ∙ sym on.name)) ∙ same n other;
         })
         ((on.moments keeps).before s.moment x (kept.past keeps) left);

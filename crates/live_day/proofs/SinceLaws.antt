@@ -1,5 +1,5 @@
 -- A day that goes on, and puts nothing to the log yet.
-use Rattle.std.proofs.Common.{◌≡◌, ◌⊎◌, inl, inr, ◌<◌, ◌≤◌, ◌+◌, ◌-◌, ◌^◌, ℕ, false, List, [], ◌∷◌, ◌++◌, length, map, sym, ◌∙◌, ap, subst, arith, append_assoc, length-append, length-drop}
+use Rattle.std.proofs.Common.{◌≡◌, ◌⊎◌, inl, inr, ◌<◌, ◌≤◌, ◌+◌, ◌^◌, ℕ, false, List, [], ◌∷◌, ◌++◌, length, map, sym, ◌∙◌, ap, subst, arith, append_assoc, length-append, length-drop}
 use Rattle.std.proofs.lemmas.List.{map-append}
 use Rattle.catalogue_core.specs.declared.entry.Entry.{Entry}
 use Rattle.catalogue_core.specs.declared.command.Command.{Command}
@@ -68,23 +68,26 @@ parts_on h next on =
 
 module _ {D : Type 0} (m : DiskMeaning D) (h next : History) (on : HasGoneOn h next) (l now : LogValue D) (same : now ≡ l) (entries : List Entry) (is : entries ≡ entries_since h next) where
   -- the log once they are put
-  pub put_logged_on : (new : LogValue D) → new.name ≡ now.name
-      → ((before : List LineParts) → HasLog now.name before (m.seen now.disk) → HasLog now.name (before ++ map line_parts entries) (m.seen new.disk))
-      → HasLog l.name (parts_of h.journal) (m.seen l.disk) → HasLog new.name (parts_of next.journal) (m.seen new.disk)
-  put_logged_on new name put logged =
-      let both : HasLog now.name (parts_of h.journal ++ map line_parts entries) (m.seen new.disk) =
-      put (parts_of h.journal) (subst (λ (x : LogValue D). HasLog x.name (parts_of h.journal) (m.seen x.disk)) (sym same) logged) in
-      let since : HasLog now.name (parts_of h.journal ++ parts_of (entries_since h next)) (m.seen new.disk) =
-      subst (λ (es : List Entry). HasLog now.name (parts_of h.journal ++ map line_parts es) (m.seen new.disk)) is both in
-      subst (λ (n : Name). HasLog n (parts_of next.journal) (m.seen new.disk)) (sym name)
-      (subst (λ (es : List LineParts). HasLog now.name es (m.seen new.disk)) (parts_on h next on) since)
+  pub put_logged_on : (new : LogValue D) → new.name ≡ now.name → new.head ≡ now.head
+      → ((before : List LineParts) → HasLog now.name now.head before (m.seen now.disk) → HasLog now.name now.head (before ++ map line_parts entries) (m.seen new.disk))
+      → HasLog l.name l.head (parts_of h.journal) (m.seen l.disk) → HasLog new.name new.head (parts_of next.journal) (m.seen new.disk)
+  put_logged_on new name head put logged =
+      let both : HasLog now.name now.head (parts_of h.journal ++ map line_parts entries) (m.seen new.disk) =
+      put (parts_of h.journal) (subst (λ (x : LogValue D). HasLog x.name x.head (parts_of h.journal) (m.seen x.disk)) (sym same) logged) in
+      let since : HasLog now.name now.head (parts_of h.journal ++ parts_of (entries_since h next)) (m.seen new.disk) =
+      subst (λ (es : List Entry). HasLog now.name now.head (parts_of h.journal ++ map line_parts es) (m.seen new.disk)) is both in
+      subst (λ (n : Name). HasLog n new.head (parts_of next.journal) (m.seen new.disk)) (sym name)
+      (subst (λ (h : List ℕ). HasLog now.name h (parts_of next.journal) (m.seen new.disk)) (sym head)
+      (subst (λ (es : List LineParts). HasLog now.name now.head es (m.seen new.disk)) (parts_on h next on) since))
 
   -- the log that would be too long with them
-  pub put_too_long : ((before : List LineParts) → HasLog now.name before (m.seen now.disk) → 2 ^ 64 ≤ length (log_of (before ++ map line_parts entries)))
-      → HasLog l.name (parts_of h.journal) (m.seen l.disk) → 2 ^ 64 ≤ length (log_of (parts_of next.journal))
-  put_too_long long logged =
-      let both : 2 ^ 64 ≤ length (log_of (parts_of h.journal ++ map line_parts entries)) =
-      long (parts_of h.journal) (subst (λ (x : LogValue D). HasLog x.name (parts_of h.journal) (m.seen x.disk)) (sym same) logged) in
-      let since : 2 ^ 64 ≤ length (log_of (parts_of h.journal ++ parts_of (entries_since h next))) =
-      subst (λ (es : List Entry). 2 ^ 64 ≤ length (log_of (parts_of h.journal ++ map line_parts es))) is both in
-      subst (λ (es : List LineParts). 2 ^ 64 ≤ length (log_of es)) (parts_on h next on) since
+  pub put_too_long : length now.head < 2 ^ 63
+      → ((before : List LineParts) → HasLog now.name now.head before (m.seen now.disk) → 2 ^ 64 ≤ length now.head + length (log_of (before ++ map line_parts entries)))
+      → HasLog l.name l.head (parts_of h.journal) (m.seen l.disk) → 2 ^ 63 ≤ length (log_of (parts_of next.journal))
+  put_too_long short long logged =
+      let whole : 2 ^ 64 ≤ length now.head + length (log_of (parts_of h.journal ++ map line_parts entries)) =
+      long (parts_of h.journal) (subst (λ (x : LogValue D). HasLog x.name x.head (parts_of h.journal) (m.seen x.disk)) (sym same) logged) in
+      let both : 2 ^ 63 ≤ length (log_of (parts_of h.journal ++ map line_parts entries)) = omega (arith, short, whole) in
+      let since : 2 ^ 63 ≤ length (log_of (parts_of h.journal ++ parts_of (entries_since h next))) =
+      subst (λ (es : List Entry). 2 ^ 63 ≤ length (log_of (parts_of h.journal ++ map line_parts es))) is both in
+      subst (λ (es : List LineParts). 2 ^ 63 ≤ length (log_of es)) (parts_on h next on) since

@@ -1,5 +1,5 @@
 -- When a day takes no more lines, and what is said then.
-use Rattle.std.proofs.Common.{◌≡◌, refl, sym, subst, ap, Option, Some, None, Result, Ok, Err}
+use Rattle.std.proofs.Common.{◌≡◌, refl, sym, subst, ap, Option, Some, Result, Ok, Err}
 use Rattle.std.specs.Prelude.{◌↔◌, ⊤, Bool, true, false, IfErr, IsErrAnd}
 use Rattle.catalogue_core.specs.Replay.{History}
 use Rattle.files_in_place.specs.Disk.{DiskMeaning}

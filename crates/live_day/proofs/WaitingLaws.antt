@@ -1,5 +1,5 @@
 -- Answers that wait, and are shown once their entries are in the log.
-use Rattle.std.proofs.Common.{◌≡◌, inl, ◌+◌, ℕ, List, [], ◌∷◌, ◌++◌, length, map, refl, sym, ◌∙◌, ap, subst, arith, length-append}
+use Rattle.std.proofs.Common.{◌≡◌, inl, ℕ, List, [], ◌∷◌, ◌++◌, length, map, refl, sym, ◌∙◌, ap, subst, arith, length-append}
 use Rattle.std.specs.List.{AllByRecursion}
 use Rattle.std.proofs.lemmas.List.{append-nil, map-append}
 use Rattle.catalogue_core.specs.Replay.{History}
@@ -62,7 +62,7 @@ all_front P (x ∷ xs) ys all = (all.0, all_front P xs ys all.1)
 
 module _ {D : Type 0} (m : DiskMeaning D) (day : DayValue D) where
   -- told by the lines that are shown
-  told_again : (answers : List WaitingAnswer) → all_told_by answers ≡ map told_in (all_shown_after m day answers)
+  pub told_again : (answers : List WaitingAnswer) → all_told_by answers ≡ map told_in (all_shown_after m day answers)
   told_again [] = refl
   told_again (answer ∷ answers) = ap (λ (l : List Told). told_by answer ∷ l) (told_again answers)
 
@@ -76,10 +76,10 @@ module _ {D : Type 0} (m : DiskMeaning D) (day : DayValue D) where
       among = waits.among;
       past = λ keeps. omega arith;
       kept = λ keeps c left.
-          let now : HasFrontIn day.log.name (length day.history.journal) (parts_of day.history.journal) (m.seen day.log.disk) c =
+          let now : HasFrontIn day.log.name day.log.head (length day.history.journal) (parts_of day.history.journal) (m.seen day.log.disk) c =
           front_now m day (logged keeps) (synced keeps) c (m.only_now day.log.disk c left) in
           record {
-            kept = front_less day.log.name day.log.name (length day.history.journal) answer.count (parts_of day.history.journal) c refl waits.among now.kept;
+            kept = front_less day.log.name day.log.name day.log.head day.log.head (length day.history.journal) answer.count (parts_of day.history.journal) c refl refl waits.among now.kept;
             elsewhere = now.elsewhere;
           };
     }

@@ -38,6 +38,10 @@ AnswersLine (Run command) station old new answer = (new ≡ with_entry old stati
 AnswersLine Status station old new answer = (new ≡ old) × (answer ≡ Some (status_text (row old)))
 AnswersLine Blank station old new answer = (new ≡ old) × (answer ≡ None)
 
+-- a line that means so has the one answer, whether it could be made or not
+abbrev pub IsAnsweredBy : (Line → Type 0) → ℕ → History → History → Type 0
+IsAnsweredBy means station old new = (answer : Option (List ℕ)) × ((meaning : Line) → means meaning → AnswersLine meaning station old new answer)
+
 -- the journal takes no more entries, and the line, which means so, would be one
 abbrev pub HasNoRoomFor : (Line → Type 0) → History → Type 0
 HasNoRoomFor means h = (length h.journal ≡ MAX_ENTRIES) × ((meaning : Line) → means meaning → IsCommand meaning)
@@ -68,11 +72,11 @@ IsUnperformed Unanswered = ⊥
 module _ {D : Type 0} (m : DiskMeaning D) where
   -- a crash left the log of the journal as it was, with what was performed since or without it
   abbrev pub HasPutSince : DayValue D → DayValue D → Folder → Type 0
-  HasPutSince old new = IsLogPut old.log.name (m.seen old.log.disk) (parts_of old.history.journal) (parts_of (entries_since old.history new.history))
+  HasPutSince old new = IsLogPut old.log.name old.log.head (m.seen old.log.disk) (parts_of old.history.journal) (parts_of (entries_since old.history new.history))
 
-  -- the log on the disk is that of the journal
+  -- the log on the disk, behind its head, is that of the journal
   abbrev pub IsLogged : DayValue D → Type 0
-  IsLogged day = HasLog day.log.name (parts_of day.history.journal) (m.seen day.log.disk)
+  IsLogged day = HasLog day.log.name day.log.head (parts_of day.history.journal) (m.seen day.log.disk)
 
 -- The one day has gone on as the other, and nothing was put to the log since: nothing was performed, or something was, and then the day
 -- takes no lines.

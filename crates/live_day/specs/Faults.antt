@@ -31,9 +31,9 @@ IsOfLog (of_run.Log fault) = Unit {0}
 IsOfLog why = ⊥
 
 module _ {D : Type 0} (m : DiskMeaning D) where
-  -- where the disk keeps its promises, the log of the journal would have 2^64 bytes or more
+  -- where the disk keeps its promises, the log of the journal would have 2^63 bytes or more: with its head 2^64, and a head has fewer than 2^63
   abbrev pub IsLogTooLong : History → Type 0
-  IsLogTooLong h = m.keeps_promises → 2 ^ 64 ≤ length (log_of (parts_of h.journal))
+  IsLogTooLong h = m.keeps_promises → 2 ^ 63 ≤ length (log_of (parts_of h.journal))
 
   -- Why the entries of a group may not be in the log: memory was refused, the disk failed, or the log would be too long. No earlier group has
   -- failed.

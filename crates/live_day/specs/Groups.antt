@@ -10,7 +10,7 @@ use Rattle.live_day.specs.declared.waiting.WaitingAnswer.{WaitingAnswer}
 use Rattle.live_day.specs.declared.wish.Wish.TheVariants.{Quit}
 use Rattle.live_day.specs.Sessions.{Told, AreObeyed, IsEnd, IsObeyed, IsWishTyped, notice_told}
 use Rattle.live_day.specs.Shows.{MayBeSaid}
-use Rattle.live_day.specs.Typing.{HasTyped, IsAllTyped}
+use Rattle.live_day.specs.Typing.{HasTyped, HasTypedFirst, IsAllTyped}
 
 -- a typed line is not `QUIT`
 abbrev pub IsNoQuit : Typed → Type 0
@@ -54,9 +54,9 @@ pub record IsFrontObeyed (station : ℕ) (lines : List Typed) (old : History) (f
   pub stopped : MatchOption front.stopped (front.count ≡ length lines) (IsNextRefused lines front new)
 
 -- What was typed since is these lines, and after them nothing; or QUIT, which ends the day, or no more come. It is the first lines of the
--- text. Where the next line could not be read nothing is said.
+-- text. Where the next line could not be read, it is these lines too.
 abbrev pub IsGroupTyped : Type 0 → Option (List ℕ) → Option (List ℕ) → List Typed → List Typed → List Typed → Then → Type 0
 IsGroupTyped ended text text_then typed typed_then lines More = (typed_then ≡ typed ++ lines) × HasTyped text text_then typed typed_then
 IsGroupTyped ended text text_then typed typed_then lines Over =
     (end : List Typed) × IsEnd (IsAllTyped ended text text_then) end × (typed_then ≡ typed ++ lines ++ end) × HasTyped text text_then typed typed_then
-IsGroupTyped ended text text_then typed typed_then lines (Failed fault) = Unit {0}
+IsGroupTyped ended text text_then typed typed_then lines (Failed fault) = (typed_then ≡ typed ++ lines) × HasTypedFirst text typed typed_then

@@ -4,6 +4,7 @@ pub mod Groups
 pub mod Sessions
 pub mod Shows
 pub mod Starts
+pub mod Stops
 pub mod Typing
 pub mod Waiting
 pub mod Wishes

@@ -37,10 +37,10 @@ MayBeTold h station line = IsAnswerTold h station line ⊎ ((n : Notice) × MayB
 abbrev pub at_count : History → ℕ → History
 at_count h count = history h.opened (take count h.journal)
 
--- a crash left a log of the journal's first entries, so many at least
-pub record HasFront (name : Name) (least : ℕ) (journal : List LineParts) (c : Folder) : Type 0 where
+-- a crash left the head, and behind it a log of the journal's first entries, so many at least
+pub record HasFront (name : Name) (head : List ℕ) (least : ℕ) (journal : List LineParts) (c : Folder) : Type 0 where
   pub log : List ℕ
-  pub there : c name ≡ Some log
+  pub there : c name ≡ Some (head ++ log)
   pub front : List LineParts
   pub rest : List LineParts
   pub order : journal ≡ front ++ rest
@@ -48,8 +48,8 @@ pub record HasFront (name : Name) (least : ℕ) (journal : List LineParts) (c : 
   pub enough : least ≤ length front
 
 -- the file of the log has the journal's first entries so (`HasFront`), and each other file is as it was
-pub record HasFrontIn (name : Name) (least : ℕ) (journal : List LineParts) (old c : Folder) : Type 0 where
-  pub kept : HasFront name least journal c
+pub record HasFrontIn (name : Name) (head : List ℕ) (least : ℕ) (journal : List LineParts) (old c : Folder) : Type 0 where
+  pub kept : HasFront name head least journal c
   pub elsewhere : SameBut name old c
 
 module _ {D : Type 0} (m : DiskMeaning D) where
@@ -64,16 +64,17 @@ module _ {D : Type 0} (m : DiskMeaning D) where
     pub among : s.count ≤ length day.history.journal
     pub past : m.keeps_promises → s.moment ≤ m.moment day.log.disk
     pub kept : m.keeps_promises → (c : Folder) → m.left_since day.log.disk s.moment c
-        → HasFrontIn day.log.name s.count (parts_of day.history.journal) (m.seen day.log.disk) c
+        → HasFrontIn day.log.name day.log.head s.count (parts_of day.history.journal) (m.seen day.log.disk) c
 
   -- From one moment of a day to another the journal goes on, and a crash at any moment leaves a log of its first entries, those of
   -- the beginning among them, and each other file as it was.
   pub record IsDayAfter (old new : DayValue D) : Type 0 where
     pub name : new.log.name ≡ old.log.name
+    pub head : new.log.head ≡ old.log.head
     pub history : HasGoneOn old.history new.history
     pub others : SameBut old.log.name (m.seen old.log.disk) (m.seen new.log.disk)
     pub moments : m.keeps_promises
-        → LeavesOnly m old.log.disk new.log.disk (HasFrontIn old.log.name (length old.history.journal) (parts_of new.history.journal) (m.seen old.log.disk))
+        → LeavesOnly m old.log.disk new.log.disk (HasFrontIn old.log.name old.log.head (length old.history.journal) (parts_of new.history.journal) (m.seen old.log.disk))
 
   -- the day goes on so, and each line that was shown meanwhile is kept
   pub record KeepsShown (old new : DayValue D) (shown shown_then : List ShownLine) : Type 0 where

@@ -48,6 +48,10 @@ pub record HasTyped (text rest : Option (List ℕ)) (typed typed_then : List Typ
   pub more : typed_then ≡ typed ++ lines
   pub are : TypesKnown text lines rest
 
+-- and so it is whatever is left of the text
+abbrev pub HasTypedFirst : Option (List ℕ) → List Typed → List Typed → Type 0
+HasTypedFirst text typed typed_then = (rest : Option (List ℕ)) × HasTyped text rest typed typed_then
+
 -- no more lines come, and of a text that was known nothing is left
 abbrev pub IsAllTyped : Type 0 → Option (List ℕ) → Option (List ℕ) → Type 0
 IsAllTyped ended text rest = ended × OnSome text (IsAtEnd rest)

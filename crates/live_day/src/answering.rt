@@ -6,6 +6,7 @@ ghost use Rattle.live_day.specs.Faults.{IsDayFault, IsOfLog};
 ghost use Rattle.live_day.specs.Groups.{all_told_by, IsFrontObeyed, IsNoQuit};
 ghost use Rattle.live_day.specs.Sessions.{Told, AreObeyed, notice_told, IsWishTyped, TellsMore};
 ghost use Rattle.live_day.specs.Shows.{KeepsShown, MayBeSaid};
+ghost use Rattle.live_day.specs.Stops.{AreCutShort, AreStopped, HasLogOf, TellsFront};
 
 use crate::day::Day;
 use crate::group::Front;
@@ -26,6 +27,7 @@ fn notify<D: DiskInPlace + Drop, S: Screen<D>>(
     requires takes { day.now.takes ≡ true }
     requires said { MayBeSaid day.now.history notice }
     ensures told { OnOk result (TellsMore (S.shown screen.old) (S.shown screen.new) (notice_told station day.now.history notice)) }
+    ensures cut { OnErr result (TellsFront (S.shown screen.old) (S.shown screen.new) (notice_told station day.now.history notice)) }
     ensures fault { IfErr result (λ fault. fault ≡ RunFault.Screen) }
     ensures failed { OnErr result (S.has_failed screen.new) }
     ensures kept { KeepsShown D.meaning day.now day.now (S.shown screen.old) (S.shown screen.new) }
@@ -60,6 +62,7 @@ fn obey_front<D: DiskInPlace + Drop, S: Screen<D>>(
     requires no_quit { AllByRecursion IsNoQuit lines.now }
     ensures obeyed { IfOk result (λ front. IsFrontObeyed station lines.now day.old.history front day.new.history) }
     ensures told { IfOk result (λ front. TellsMore (S.shown screen.old) (S.shown screen.new) (all_told_by front.answers.items)) }
+    ensures cut { OnErr result (AreCutShort station lines.now day.old.history day.new.history (S.shown screen.old) (S.shown screen.new)) }
     ensures counted { IfOk result (λ front. 1 ≤ front.station) }
     ensures inside { IfOk result (λ front. front.station ≤ day.new.history.opened.stations) }
     ensures takes { OnOk result (day.new.takes ≡ true) }
@@ -89,6 +92,7 @@ fn obey_some<D: DiskInPlace + Drop, S: Screen<D>>(
     ensures within { IfOk result (λ done. done.0 ≤ length lines.now) }
     ensures obeyed { IfOk result (λ done. (told : List Told) × TellsMore (S.shown screen.old) (S.shown screen.new) told
         × AreObeyed (take done.0 lines.now) station day.old.history done.1 day.new.history told) }
+    ensures cut { OnErr result (AreCutShort station lines.now day.old.history day.new.history (S.shown screen.old) (S.shown screen.new)) }
     ensures counted { IfOk result (λ done. 1 ≤ done.1) }
     ensures inside { IfOk result (λ done. done.1 ≤ day.new.history.opened.stations) }
     ensures takes { OnOk result (day.new.takes ≡ true) }
@@ -120,6 +124,8 @@ pub(crate) fn obey_lines<D: DiskInPlace + Drop, S: Screen<D>>(
     requires no_quit { AllByRecursion IsNoQuit lines.now }
     ensures obeyed { IfOk result (λ next. (told : List Told) × TellsMore (S.shown screen.old) (S.shown screen.new) told
         × AreObeyed lines.now station day.old.history next day.new.history told) }
+    ensures cut { OnErr result (AreStopped (length lines.now) (HasLogOf D.meaning day.new) station lines.now day.old.history day.new.history
+        (S.shown screen.old) (S.shown screen.new)) }
     ensures counted { IfOk result (λ next. 1 ≤ next) }
     ensures inside { IfOk result (λ next. next ≤ day.new.history.opened.stations) }
     ensures takes { OnOk result (day.new.takes ≡ true) }

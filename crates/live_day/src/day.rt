@@ -1,22 +1,23 @@
 //! The tables of a day, and the log of what was performed on them.
 
-ghost use Rattle.std.specs.Prelude.{◌≡◌, ◌↔◌, ◌≤◌, true, false, length, Some, IfOk, IfErr, IfSome, OnOk, OnErr, IsErrOf};
+ghost use Rattle.std.specs.Prelude.{◌≡◌, ◌↔◌, ◌≤◌, ℕ, List, Option, true, false, length, Some, IfOk, IfErr, IfSome, OnOk, OnErr, IsErrOf};
 ghost use Rattle.std.specs.List.{AllByRecursion};
 ghost use Rattle.files_in_place.specs.Folder.{SameBut};
 ghost use Rattle.files_in_place.specs.Disk.{LeavesOnly, IsSyncedDisk, HasDiskCause};
 ghost use Rattle.audit.specs.Audits.{IsCommand};
 ghost use Rattle.catalogue_core.specs.declared.catalogue.TheConstants.{MAX_ENTRIES};
-ghost use Rattle.catalogue_core.specs.Replay.{answer_of, with_entry};
+ghost use Rattle.catalogue_core.specs.Replay.{answer_of, with_entry, AreOfStations, IsLegal};
 ghost use Rattle.station_lines.specs.declared.script.line.Line.{Line as Meaning};
 ghost use Rattle.catalogue_core.specs.Status.{row};
 ghost use Rattle.station_lines.specs.AnswerLines.{line_of, status_text};
 ghost use Rattle.station_lines.specs.Script.Meaning.{Means};
 ghost use Rattle.live_log.specs.declared.faults.LogFault.TheVariants.{Failed};
 ghost use Rattle.live_log.specs.Logs.{HasLog};
-ghost use Rattle.live_day.specs.Days.{parts_of, AnswersLine, HasPerformedSince, HasPutSince, HasGoneOn, HasNoRoomFor, IsAnswerTold, IsLogged, IsUnperformed};
+ghost use Rattle.live_day.specs.Days.{parts_of, AnswersLine, HasPerformedSince, HasPutSince, HasGoneOn, HasNoRoomFor, IsAnsweredBy, IsAnswerTold, IsLogged, IsUnperformed};
 ghost use Rattle.live_day.specs.Faults.{IsGroupFault};
 ghost use Rattle.live_day.specs.Groups.{IsFrontObeyed, IsNoQuit};
 ghost use Rattle.live_day.specs.Sessions.{MeansTyped};
+ghost use Rattle.live_day.specs.Stops.{AreFirstObeyed};
 ghost use Rattle.live_day.specs.Waiting.{IsWaiting};
 
 use crate::faults::LineFault;
@@ -54,14 +55,14 @@ impl<D: DiskInPlace + Drop> Model for Day<D> {
     ghost view = { λ d. record { history = d.catalogue; log = d.log; takes = d.takes } };
 
     ghost invariant = { λ d. d.takes ≡ true
-        → (d.log.takes ≡ true) × (D.meaning.keeps_promises → HasLog d.log.name (parts_of d.catalogue.journal) (D.meaning.seen d.log.disk)) };
+        → (d.log.takes ≡ true) × (D.meaning.keeps_promises → HasLog d.log.name d.log.head (parts_of d.catalogue.journal) (D.meaning.seen d.log.disk)) };
 }
 
 impl<D: DiskInPlace + Drop> Day<D> {
     /// A day with these tables and what was performed on them, of which this is the log.
     pub fn new(alloc: Global, catalogue: Catalogue, log: Log<D>) -> Day<D>
         requires takes { log.takes ≡ true }
-        requires logged { D.meaning.keeps_promises → HasLog log.name (parts_of catalogue.journal) (D.meaning.seen log.disk) }
+        requires logged { D.meaning.keeps_promises → HasLog log.name log.head (parts_of catalogue.journal) (D.meaning.seen log.disk) }
         ensures history { result.history ≡ catalogue }
         ensures log { result.log ≡ log }
         ensures takes { result.takes ≡ true }
@@ -83,6 +84,7 @@ impl<D: DiskInPlace + Drop> Day<D> {
         ensures entry { OnOk result (self.new.history ≡ with_entry self.old.history station command.now) }
         ensures full { IsErrOf result LineFault.JournalFull ↔ (length self.old.history.journal ≡ MAX_ENTRIES) }
         ensures unperformed { IfErr result (λ fault. IsUnperformed fault → self.new ≡ self.old) }
+        ensures performed { IfErr result (λ fault. ¬ (IsUnperformed fault) → self.new.history ≡ with_entry self.old.history station command.now) }
         ensures since { HasPerformedSince self.old self.new }
         ensures closed { IfErr result (λ fault. ¬ (IsUnperformed fault) → self.new.takes ≡ false) }
     {
@@ -107,7 +109,7 @@ impl<D: DiskInPlace + Drop> Day<D> {
     }
 
     // Performs what a line of a station means, and puts nothing to the log.
-    #[tactic(auto, using(crate::proofs::SinceLaws::since_same))]
+    #[tactic(auto, using(crate::proofs::SinceLaws::since_same, crate::proofs::StoppedLaws::run_entered))]
     fn perform_meaning(&mut self, station: u32, meaning: &Line) -> Result<Option<Bytes>, LineFault>
         requires counted { 1 ≤ station }
         requires inside { station ≤ self.old.history.opened.stations }
@@ -115,6 +117,8 @@ impl<D: DiskInPlace + Drop> Day<D> {
         ensures told { IfOk result (λ answer. IfSome answer (IsAnswerTold self.new.history station)) }
         ensures full { IsErrOf result LineFault.JournalFull ↔ (IsCommand meaning.now × (length self.old.history.journal ≡ MAX_ENTRIES)) }
         ensures unperformed { IfErr result (λ fault. IsUnperformed fault → self.new ≡ self.old) }
+        ensures performed { IfErr result (λ fault. ¬ (IsUnperformed fault)
+            → (answer : Option (List ℕ)) × AnswersLine meaning.now station self.old.history self.new.history answer) }
         ensures ended { IfErr result (λ fault. ¬ (IsUnperformed fault) → self.new.takes ≡ false) }
         ensures since { HasPerformedSince self.old self.new }
     {
@@ -135,6 +139,7 @@ impl<D: DiskInPlace + Drop> Day<D> {
         ensures told { IfOk result (λ answer. IfSome answer (IsAnswerTold self.new.history station)) }
         ensures full { IsErrOf result LineFault.JournalFull → HasNoRoomFor (Means line.now) self.old.history }
         ensures unperformed { IfErr result (λ fault. IsUnperformed fault → self.new ≡ self.old) }
+        ensures performed { IfErr result (λ fault. ¬ (IsUnperformed fault) → IsAnsweredBy (Means line.now) station self.old.history self.new.history) }
         ensures ended { IfErr result (λ fault. ¬ (IsUnperformed fault) → self.new.takes ≡ false) }
         ensures since { HasPerformedSince self.old self.new }
     {
@@ -158,6 +163,7 @@ impl<D: DiskInPlace + Drop> Day<D> {
         ensures told { IfOk result (λ answer. IfSome answer (IsAnswerTold self.new.history station)) }
         ensures full { IsErrOf result LineFault.JournalFull → HasNoRoomFor (MeansTyped typed.now) self.old.history }
         ensures unperformed { IfErr result (λ fault. IsUnperformed fault → self.new ≡ self.old) }
+        ensures performed { IfErr result (λ fault. ¬ (IsUnperformed fault) → IsAnsweredBy (MeansTyped typed.now) station self.old.history self.new.history) }
         ensures ended { IfErr result (λ fault. ¬ (IsUnperformed fault) → self.new.takes ≡ false) }
         ensures since { HasPerformedSince self.old self.new }
     {
@@ -190,7 +196,10 @@ impl<D: DiskInPlace + Drop> Day<D> {
         ensures logged { D.meaning.keeps_promises → OnOk result (IsLogged D.meaning self.new) }
         ensures durable { D.meaning.keeps_promises → OnOk result (IsSyncedDisk D.meaning self.new.log.disk) }
         ensures name { self.new.log.name ≡ self.old.log.name }
+        ensures head { self.new.log.head ≡ self.old.log.head }
         ensures ended { OnErr result (self.new.takes ≡ false) }
+        // Where the entries may not be in the log, the first of the lines were obeyed and no others.
+        ensures first { OnErr result (AreFirstObeyed station lines.now self.old.history self.new.history) }
         // No earlier group has failed; and the log is called too long only where it is.
         ensures fault { IfErr result (IsGroupFault D.meaning self.new.history) }
         ensures others { SameBut self.old.log.name (D.meaning.seen self.old.log.disk) (D.meaning.seen self.new.log.disk) }
@@ -237,10 +246,14 @@ impl<D: DiskInPlace + Drop> Day<D> {
     pub fn into_parts(self) -> (Catalogue, Log<D>)
         ensures history { result.0 ≡ self.history }
         ensures log { result.1 ≡ self.log }
+        ensures legal { IsLegal self.history.opened self.history.journal }
+        ensures of_stations { AreOfStations self.history.opened self.history.journal }
         // Where the day takes lines, the log takes groups, and on the disk it is that of the journal.
         ensures takes { self.takes ≡ true → self.log.takes ≡ true }
         ensures logged { D.meaning.keeps_promises → self.takes ≡ true → IsLogged D.meaning self }
     {
+        // For contracts alone: each answer of the journal is the one that its command has there.
+        let _ = self.catalogue.journal();
         (self.catalogue, self.log)
     }
 }

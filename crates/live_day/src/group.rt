@@ -4,7 +4,8 @@ ghost use Rattle.std.specs.Prelude.{◌≡◌, ◌≢◌, ◌≤◌, true, false
 ghost use Rattle.std.specs.List.{AllByRecursion};
 ghost use Rattle.live_day.specs.Days.{HasPerformedSince};
 ghost use Rattle.live_day.specs.Groups.{HasMade, IsFrontObeyed, IsNoQuit, WaitsToTell};
-ghost use Rattle.live_day.specs.Sessions.{Told, IsLineAnswered, IsLineRefused};
+ghost use Rattle.live_day.specs.Sessions.{Told, IsLineAnswered, IsLineRefused, IsObeyed};
+ghost use Rattle.live_day.specs.Stops.{AreFirstObeyed};
 ghost use Rattle.live_day.specs.Waiting.{IsWaiting};
 ghost use Rattle.live_day.specs.declared.keyboard.Typed.TheVariants.{Cut};
 
@@ -55,6 +56,7 @@ fn perform_waiting<D: DiskInPlace + Drop>(
     ensures refused { IfOk result (λ refused. IfSome refused (IsLineRefused typed.now day.old.history)) }
     ensures undone { IfOk result (λ refused. IfSome refused (λ _. (day.new ≡ day.old) × (answers.new.items ≡ answers.old.items))) }
     ensures waiting { OnOk result (AllByRecursion (IsWaiting day.new.history) answers.new.items) }
+    ensures performed { OnErr result ((told : List Told) × IsLineAnswered station typed.now day.old.history day.new.history told) }
     ensures since { HasPerformedSince day.old day.new }
     ensures ended { OnErr result (day.new.takes ≡ false) }
     ensures fault { IfErr result (λ fault. fault ≡ LogFault.NoMemory) }
@@ -98,6 +100,7 @@ fn obey_waiting<D: DiskInPlace + Drop>(
     ensures counted { IfOk result (λ made. IfOk made (λ next. 1 ≤ next)) }
     ensures inside { IfOk result (λ made. IfOk made (λ next. next ≤ day.new.history.opened.stations)) }
     ensures waiting { OnOk result (AllByRecursion (IsWaiting day.new.history) answers.new.items) }
+    ensures performed { OnErr result ((told : List Told) × IsObeyed station typed.now day.old.history station day.new.history told) }
     ensures since { HasPerformedSince day.old day.new }
     ensures ended { OnErr result (day.new.takes ≡ false) }
     ensures fault { IfErr result (λ fault. fault ≡ LogFault.NoMemory) }
@@ -130,6 +133,7 @@ pub(crate) fn perform_front<D: DiskInPlace + Drop>(
     requires inside { station ≤ day.old.history.opened.stations }
     requires no_quit { AllByRecursion IsNoQuit lines.now }
     ensures obeyed { IfOk result (λ front. IsFrontObeyed station lines.now day.old.history front day.new.history) }
+    ensures first { OnErr result (AreFirstObeyed station lines.now day.old.history day.new.history) }
     ensures waiting { IfOk result (λ front. AllByRecursion (IsWaiting day.new.history) front.answers.items) }
     ensures counted { IfOk result (λ front. 1 ≤ front.station) }
     ensures inside { IfOk result (λ front. front.station ≤ day.new.history.opened.stations) }

@@ -1,10 +1,11 @@
 //! The lines of a day are answered as they come.
 
-ghost use Rattle.std.specs.Prelude.{◌≡◌, ◌↔◌, ◌≤◌, true, false, IfErr, IsErrAnd, OnOk};
+ghost use Rattle.std.specs.Prelude.{◌≡◌, ◌↔◌, ◌≤◌, true, false, IfErr, IsErrAnd, OnErr, OnOk};
 ghost use Rattle.live_day.specs.Faults.{IsDayFault, IsOfLog};
 ghost use Rattle.live_day.specs.Sessions.{IsDayRun};
 ghost use Rattle.live_day.specs.Shows.{KeepsShown};
-ghost use Rattle.live_day.specs.Typing.{IsAllTyped, CanReadNoMore, HasTyped};
+ghost use Rattle.live_day.specs.Stops.{HasLogOf, IsDayStopped};
+ghost use Rattle.live_day.specs.Typing.{IsAllTyped, CanReadNoMore, HasTyped, HasTypedFirst};
 
 use crate::answering::obey_lines;
 use crate::day::Day;
@@ -33,6 +34,12 @@ pub fn run_day<D: DiskInPlace + Drop, S: Screen<D>, K: Keyboard>(
         (K.typed keyboard.old) (K.typed keyboard.new) day.old.history day.new.history (S.shown screen.old) (S.shown screen.new)) }
     // These lines are the first of the text, in order; what stands after them is left.
     ensures read { OnOk result (HasTyped (K.text_left keyboard.old) (K.text_left keyboard.new) (K.typed keyboard.old) (K.typed keyboard.new)) }
+    // However it ends, all that was typed is the first lines of the text.
+    ensures typed { HasTypedFirst (K.text_left keyboard.old) (K.typed keyboard.old) (K.typed keyboard.new) }
+    // Where it is stopped, the lines before were obeyed, in order, and answered; of one group more the first may be obeyed, and of their answers
+    // the first may be shown. A crash now leaves a log of the journal's first entries, among them all of the lines before.
+    ensures stopped_at { OnErr result (IsDayStopped (HasLogOf D.meaning day.new) (K.typed keyboard.old) (K.typed keyboard.new)
+        day.old.history day.new.history (S.shown screen.old) (S.shown screen.new)) }
     ensures takes { OnOk result (day.new.takes ≡ true) }
     // The day takes no more lines where one was performed whose entry may not be in the log, and only then this is said.
     ensures stopped { IsErrAnd result IsOfLog ↔ (day.new.takes ≡ false) }
@@ -54,5 +61,7 @@ pub fn run_day<D: DiskInPlace + Drop, S: Screen<D>, K: Keyboard>(
             Then::Failed(fault) => return Err(RunFault::from(fault)),
         }
     }
+    // For contracts alone: the journal is on the disk.
+    let _ = day.station_count();
     Err(RunFault::Unread)
 }

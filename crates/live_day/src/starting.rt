@@ -1,6 +1,6 @@
 //! A day starts on the log that an earlier life has left.
 
-ghost use Rattle.std.specs.Prelude.{◌≡◌, ◌≢◌, [], true, false, IfOk, IfErr};
+ghost use Rattle.std.specs.Prelude.{◌≡◌, ◌≢◌, ◌<◌, ◌^◌, ◌++◌, length, [], true, false, IfOk, IfErr};
 ghost use Rattle.files_in_place.specs.declared.phase.Phase.TheVariants.{Staging};
 ghost use Rattle.files_in_place.specs.Folder.{Name, is_reserved};
 ghost use Rattle.files_in_place.specs.Disk.{LeavesOnly};
@@ -29,22 +29,25 @@ pub struct Unstarted<D: DiskInPlace + Drop> {
     pub disk: D,
 }
 
-/// Starts a day on a folder, with tables on which the log was performed once more, and this log of it: it takes the place of the one
-/// that was found, without what was left of a group. The set is new, and the name one that a file may have.
+/// Starts a day on a folder, with tables on which the log was performed once more, and this log of it, which stands behind this head: it
+/// takes the place of the one that was found, without what was left of a group. The set is new, and the name one that a file may have.
 pub fn start_day<D: DiskInPlace + Drop>(
     alloc: Global,
     catalogue: Catalogue,
     mut set: FileSet<D>,
     name: Bytes,
+    head: Bytes,
     log: &[u8],
 ) -> Result<Day<D>, Unstarted<D>>
     requires staging { set.phase ≡ Staging }
     requires empty { set.names ≡ [] }
     requires name { is_file_name name ≡ true }
-    requires log { log.now ≡ log_of (parts_of catalogue.journal) }
+    requires log { log.now ≡ head ++ log_of (parts_of catalogue.journal) }
     requires small { HaveSmallNumbers (parts_of catalogue.journal) }
+    requires short { length head < 2 ^ 63 }
     ensures history { IfOk result (λ day. day.history ≡ catalogue) }
     ensures name { IfOk result (λ day. day.log.name ≡ name) }
+    ensures head { IfOk result (λ day. day.log.head ≡ head) }
     ensures takes { IfOk result (λ day. day.takes ≡ true) }
     ensures clean { D.meaning.keeps_promises → IfOk result (λ day. IsClean (D.meaning.seen day.log.disk)) }
     ensures others { D.meaning.keeps_promises → IfOk result (λ day. (n : Name) → is_reserved n ≡ false → n ≢ name
@@ -62,6 +65,6 @@ pub fn start_day<D: DiskInPlace + Drop>(
             disk: set.into_disk(),
         });
     }
-    let log = Log::new(alloc, set.into_disk(), name, log);
+    let log = Log::new(alloc, set.into_disk(), name, head, log);
     Ok(Day::new(alloc, catalogue, log))
 }

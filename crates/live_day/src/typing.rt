@@ -1,10 +1,11 @@
 //! The lines that are there together are read.
 
-ghost use Rattle.std.specs.Prelude.{◌≡◌, ◌≢◌, ◌<◌, ◌++◌, ◌∷◌, [], length, true, false, vec_capacity, vec_len, Some, None, IfSome};
+ghost use Rattle.std.specs.Prelude.{◌≡◌, ◌≢◌, ◌<◌, ◌≤◌, ◌++◌, ◌∷◌, [], length, true, false, vec_capacity, vec_len, Some, None, IfSome};
 ghost use Rattle.std.specs.List.{AllByRecursion};
 ghost use Rattle.live_day.specs.declared.keyboard.Typed.{Typed as TypedLine};
 ghost use Rattle.live_day.specs.declared.keyboard.TypingFault.TheVariants as of_typing;
 ghost use Rattle.live_day.specs.declared.typing.Then.TheVariants.{More, Failed};
+ghost use Rattle.live_day.specs.declared.typing.TheConstants.{MAX_GROUP_LINES};
 ghost use Rattle.live_day.specs.declared.wish.Wish.TheVariants.{Quit};
 ghost use Rattle.live_day.specs.Groups.{IsGroupTyped, IsNoQuit};
 ghost use Rattle.live_day.specs.Sessions.{IsWishTyped};
@@ -92,6 +93,7 @@ pub(crate) fn read_group<K: Keyboard>(alloc: Global, keyboard: &mut K, station: 
     ensures read { IsGroupTyped (K.has_ended keyboard.new) (K.text_left keyboard.old) (K.text_left keyboard.new)
         (K.typed keyboard.old) (K.typed keyboard.new) result.lines.items result.then }
     ensures some { result.then ≡ More → 0 < length result.lines.items }
+    ensures few { length result.lines.items ≤ MAX_GROUP_LINES }
     ensures failed { result.then ≡ Failed of_typing.Failed → K.has_failed keyboard.new }
 {
     let mut lines = Vec::new(alloc);

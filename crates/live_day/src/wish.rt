@@ -3,7 +3,7 @@
 ghost use Rattle.std.specs.Prelude.{◌≡◌, take, drop};
 ghost use Rattle.live_day.specs.Wishes.{is_quit as quits, is_station_word as names_station, IsWishOf};
 
-use station_lines::plain_number;
+use station_lines::{cut_plain_word, plain_number};
 
 /// How many bytes stand before a station's number: STATION and a blank.
 pub const STATION_WORD_BYTES: usize = 8;
@@ -27,11 +27,13 @@ fn split(line: &[u8], count: usize) -> (&[u8], &[u8])
     line.split_at(line.len().min(count))
 }
 
-/// Whether a line is QUIT, in letters of either case.
+/// Whether a line is QUIT, in letters of either case; blanks at its ends count for nothing.
 pub(crate) fn is_quit(line: &[u8]) -> bool
     ensures value { result ≡ quits line.now }
 {
-    line.eq_ignore_ascii_case(b"QUIT")
+    let (word, rest) = cut_plain_word(line);
+    let (more, _) = cut_plain_word(rest);
+    word.eq_ignore_ascii_case(b"QUIT") && more.is_empty()
 }
 
 // Whether the bytes are STATION and a blank, in letters of either case.

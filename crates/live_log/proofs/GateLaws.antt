@@ -1,11 +1,11 @@
 -- What gates keep apart.
-use Rattle.std.proofs.Common.{◌≡◌, ◌≢◌, ◌≤◌, ◌+◌, inl, inr, ⊎_elim, ℕ, List, [], ◌∷◌, ◌++◌, length, refl, sym, ◌∙◌, ap, subst, arith, append_assoc, length-append}
+use Rattle.std.proofs.Common.{◌≡◌, ◌≢◌, ◌≤◌, inl, inr, ℕ, List, [], ◌∷◌, ◌++◌, length, refl, sym, ◌∙◌, ap, subst, arith, append_assoc, length-append}
 use Rattle.std.specs.Fmt.{decimal}
 use Rattle.std.proofs.lemmas.Bool.{cases_eq}
 use Rattle.std.proofs.lemmas.List.{append-nil}
 use Rattle.dbf_fields.specs.declared.format.TheConstants.{BLANK}
 use Rattle.station_lines.specs.declared.script.format.TheConstants.{LF}
-use Rattle.station_lines.specs.JournalLines.{entry_and, lines_and, HasSmallNumbers, HaveSmallNumbers}
+use Rattle.station_lines.specs.JournalLines.{entry_and, HasSmallNumbers, HaveSmallNumbers}
 use Rattle.station_lines.proofs.JournalLaws.{IsSameEntry, cut_part_one, entry_one, tail_is}
 use Rattle.live_log.specs.declared.gates.TheConstants.{OPEN_GATE, SHUT_GATE}
 use Rattle.live_log.specs.Gates.{LineParts, sum_of_line, log_line_and, gated, log_of, IsLogEnd, StandsFor, StandsForEither}

@@ -6,15 +6,15 @@ use Rattle.std.proofs.lemmas.Bool.{both_ways}
 use Rattle.std.proofs.lemmas.List.{take_at, append-nil}
 use Rattle.std.proofs.lemmas.Slice.Eq.{bytes_eq-Decides}
 use Rattle.dbf_fields.specs.declared.format.TheConstants.{BLANK}
-use Rattle.station_lines.specs.JournalLines.{entry_and, lines_and, HasSmallNumbers, HaveSmallNumbers, BeginsWithEntry, BeginsWithNoEntry, BeginsWithPart, BeginsWithNoPart}
+use Rattle.station_lines.specs.JournalLines.{entry_and, lines_and, HaveSmallNumbers, BeginsWithEntry, BeginsWithNoEntry, BeginsWithPart, BeginsWithNoPart}
 use Rattle.station_lines.proofs.JournalLaws.{cut_part_one, entry_one, tail_is}
 use Rattle.live_log.specs.declared.faults.ReadFault.{ReadFault}
 use Rattle.live_log.specs.declared.faults.ReadFault.TheVariants.{Changed, NoMemory}
 use Rattle.live_log.specs.declared.gates.TheConstants.{OPEN_GATE, SHUT_GATE}
 use Rattle.live_log.specs.declared.lines.ReadLines.{ReadLines}
 use Rattle.live_log.specs.declared.lines.TheConstants.{SUM_LEN}
-use Rattle.live_log.specs.Gates.{LineParts, sum_of_line, log_line_and, gated, log_of, IsLogEnd, StandsFor, IsWholeLog, IsLogText, BeginsWithLogLine, BeginsWithNoLogLine, IsChangedAt, IsLogUnread, AddsLines, HasReadTo, HasNoLine, AreLinesUnread, IsEndUnread, fault_at}
-use Rattle.live_log.proofs.GateLaws.{IsClosed, entry_then, log_line_then, log_line_one, same_lines, same_log, end_closed, shut_closed, stands_front, stands_last, gated-append, gated-rest, small-append, entries_fit}
+use Rattle.live_log.specs.Gates.{LineParts, sum_of_line, log_line_and, gated, log_of, IsLogEnd, IsWholeLog, IsLogText, BeginsWithLogLine, BeginsWithNoLogLine, IsChangedAt, IsLogUnread, AddsLines, HasReadTo, HasNoLine, AreLinesUnread, IsEndUnread, fault_at}
+use Rattle.live_log.proofs.GateLaws.{IsClosed, entry_then, log_line_then, log_line_one, same_lines, end_closed, shut_closed, stands_front, stands_last, gated-append, gated-rest, small-append, entries_fit}
 use Rattle.live_log.proofs.SumLaws.{length-sum}
 
 -- the line is what is first, up to what stands after it

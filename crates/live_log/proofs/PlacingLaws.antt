@@ -1,5 +1,5 @@
 -- What a crash leaves while a set takes its place with one file more.
-use Rattle.std.proofs.Common.{◌≡◌, ◌≢◌, ◌⊎◌, ◌++◌, inl, inr, ⊎_elim, List, [], ◌∷◌, true, false, Bool, None, Some, ℕ, refl, sym, ◌∙◌, ap, cond}
+use Rattle.std.proofs.Common.{◌≡◌, ◌≢◌, ◌++◌, inl, inr, ⊎_elim, List, [], ◌∷◌, true, false, Bool, None, Some, ℕ, refl, sym, ◌∙◌, ap, cond}
 use Rattle.std.proofs.lemmas.Bool.{cases_Bool, both_ways}
 use Rattle.files_in_place.specs.Folder.{Name, Folder, SameBut, is_reserved, temporary, recovered}
 use Rattle.files_in_place.specs.Recovery.{HasOldFiles, SameFree, IsClean}

@@ -1,6 +1,6 @@
 //! A group of lines is put to a log in two steps.
 
-ghost use Rattle.std.specs.Prelude.{◌≡◌, ◌+◌, ◌++◌, ◌<◌, ◌^◌, List, length, map, IfOk, OnOk, IsErrOf};
+ghost use Rattle.std.specs.Prelude.{◌≡◌, ◌+◌, ◌++◌, ◌<◌, ◌^◌, List, ℕ, length, map, IfOk, OnOk, IsErrOf};
 ghost use Rattle.files_in_place.specs.declared.faults.DiskFault.TheVariants.{Failed};
 ghost use Rattle.files_in_place.specs.Folder.{SameBut};
 ghost use Rattle.files_in_place.specs.Disk.{LeavesOnly, HasDiskCause};
@@ -43,12 +43,12 @@ pub(crate) fn put_group<D: DiskInPlace>(
     requires group { (group : List LineParts) × IsGroup group bytes.now }
     requires room { offset + length bytes.now < 2 ^ 64 }
     ensures between { D.meaning.keeps_promises → IfOk result (λ next. IsBetweenGroups D.meaning name.now next disk.new) }
-    ensures put { D.meaning.keeps_promises → OnOk result ((es group : List LineParts) → HasLog name.now es (D.meaning.seen disk.old) → IsGroup group bytes.now
-        → HasLog name.now (es ++ group) (D.meaning.seen disk.new)) }
+    ensures put { D.meaning.keeps_promises → OnOk result ((head : List ℕ) (es group : List LineParts) → HasLog name.now head es (D.meaning.seen disk.old) → IsGroup group bytes.now
+        → HasLog name.now head (es ++ group) (D.meaning.seen disk.new)) }
     ensures others { SameBut name.now (D.meaning.seen disk.old) (D.meaning.seen disk.new) }
     // A crash at any moment leaves the log with the group or without it.
-    ensures any_moment { D.meaning.keeps_promises → (es group : List LineParts) → HasLog name.now es (D.meaning.seen disk.old) → IsGroup group bytes.now
-        → LeavesOnly D.meaning disk.old disk.new (IsLogPut name.now (D.meaning.seen disk.old) es group) }
+    ensures any_moment { D.meaning.keeps_promises → (head : List ℕ) (es group : List LineParts) → HasLog name.now head es (D.meaning.seen disk.old) → IsGroup group bytes.now
+        → LeavesOnly D.meaning disk.old disk.new (IsLogPut name.now head (D.meaning.seen disk.old) es group) }
     ensures cause { HasDiskCause D.meaning disk.old disk.new (IsErrOf result Failed) }
 {
     // The group's first gate is the shut one that is on the disk, until the rest is there too.

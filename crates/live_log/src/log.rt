@@ -1,6 +1,6 @@
 //! A log that takes groups of entries.
 
-ghost use Rattle.std.specs.Prelude.{◌≡◌, ◌≢◌, ◌++◌, ◌<◌, ◌≤◌, ◌^◌, List, length, map, true, false, Some, Err, IfOk, OnOk, OnErr, IsErrOf};
+ghost use Rattle.std.specs.Prelude.{◌≡◌, ◌≢◌, ◌+◌, ◌++◌, ◌<◌, ◌≤◌, ◌^◌, List, ℕ, length, map, true, false, Some, Err, IfOk, OnOk, OnErr, IsErrOf};
 ghost use Rattle.files_in_place.specs.Folder.{SameBut};
 ghost use Rattle.files_in_place.specs.Disk.{LeavesOnly, IsSyncedDisk, HasDiskCause};
 ghost use Rattle.files_in_place.specs.Recovery.{IsClean};
@@ -19,43 +19,49 @@ use std::marker::Model;
 
 /// A log in a folder of a disk, which takes groups of entries until one fails.
 ///
-/// Contracts see the disk, the log's name and whether it takes groups. What the log stands for is what the disk shows at its name.
+/// Contracts see the disk, the log's name, its head, which stands before its first gate, and whether it takes groups. What the log stands
+/// for is what the disk shows at its name behind the head.
 #[derive(Drop)]
 pub struct Log<D: DiskInPlace + Drop> {
     alloc: Global,
     disk: D,
     name: Bytes,
+    // What stands before the first gate.
+    head: Bytes,
     // The offset of the shut gate that the log ends in.
     offset: u64,
     takes: bool,
 }
 
 impl<D: DiskInPlace + Drop> Model for Log<D> {
-    ghost use Rattle.std.specs.Prelude.{◌≡◌, true};
+    ghost use Rattle.std.specs.Prelude.{◌≡◌, ◌<◌, ◌^◌, length, true};
     ghost use Rattle.live_log.specs.Logs.{LogValue as What, IsBetweenGroups};
 
     ghost Value = { What D };
 
-    ghost view = { λ l. record { disk = l.disk; name = l.name; takes = l.takes } };
+    ghost view = { λ l. record { disk = l.disk; name = l.name; head = l.head; takes = l.takes } };
 
-    ghost invariant = { λ l. D.meaning.keeps_promises → l.takes ≡ true → IsBetweenGroups D.meaning l.name l.offset l.disk };
+    ghost invariant = { λ l. (length l.head < 2 ^ 63) × (D.meaning.keeps_promises → l.takes ≡ true → IsBetweenGroups D.meaning l.name l.offset l.disk) };
 }
 
 impl<D: DiskInPlace + Drop> Log<D> {
-    /// The log of these bytes, which the name's file has on the disk.
-    pub fn new(alloc: Global, disk: D, name: Bytes, log: &[u8]) -> Log<D>
-        requires whole { IsWholeLog log.now }
+    /// The log of these bytes, which the name's file has on the disk: the head, and behind it the lines and a shut gate.
+    pub fn new(alloc: Global, disk: D, name: Bytes, head: Bytes, log: &[u8]) -> Log<D>
+        requires whole { (body : List ℕ) × (log.now ≡ head ++ body) × IsWholeLog body }
         requires there { D.meaning.keeps_promises → D.meaning.seen disk name ≡ Some log.now }
         requires synced { D.meaning.keeps_promises → IsSyncedDisk D.meaning disk }
         requires clean { D.meaning.keeps_promises → IsClean (D.meaning.seen disk) }
+        requires short { length head < 2 ^ 63 }
         ensures disk { result.disk ≡ disk }
         ensures name { result.name ≡ name }
+        ensures head { result.head ≡ head }
         ensures takes { result.takes ≡ true }
     {
         Log {
             alloc,
             disk,
             name,
+            head,
             offset: log.len() as u64 - 1,
             takes: true,
         }
@@ -67,20 +73,25 @@ impl<D: DiskInPlace + Drop> Log<D> {
     /// refused; `Failed` where the disk failed. Where that was before anything was written, the log takes groups still.
     pub fn put(&mut self, entries: &[Entry]) -> Result<(), LogFault>
         requires some { 0 < length entries.now }
-        ensures put { D.meaning.keeps_promises → OnOk result ((before : List LineParts) → HasLog self.old.name before (D.meaning.seen self.old.disk)
-            → HasLog self.old.name (before ++ map line_parts entries.now) (D.meaning.seen self.new.disk)) }
+        ensures put { D.meaning.keeps_promises → OnOk result ((before : List LineParts)
+            → HasLog self.old.name self.old.head before (D.meaning.seen self.old.disk)
+            → HasLog self.old.name self.old.head (before ++ map line_parts entries.now) (D.meaning.seen self.new.disk)) }
         ensures takes { OnOk result (self.new.takes ≡ true) }
         ensures name { self.new.name ≡ self.old.name }
+        ensures head { self.new.head ≡ self.old.head }
         ensures others { SameBut self.old.name (D.meaning.seen self.old.disk) (D.meaning.seen self.new.disk) }
         ensures closed { self.old.takes ≡ false → (result ≡ Err F.Closed) × (self.new ≡ self.old) }
         ensures open { self.old.takes ≡ true → result ≢ Err F.Closed }
         ensures too_long { D.meaning.keeps_promises → result ≡ Err F.TooLong → (before : List LineParts)
-            → HasLog self.old.name before (D.meaning.seen self.old.disk) → 2 ^ 64 ≤ length (log_of (before ++ map line_parts entries.now)) }
+            → HasLog self.old.name self.old.head before (D.meaning.seen self.old.disk)
+            → 2 ^ 64 ≤ length self.old.head + length (log_of (before ++ map line_parts entries.now)) }
+        // The head stood in memory, so it is less than half of that.
+        ensures short { length self.old.head < 2 ^ 63 }
         ensures unchanged { OnErr result (self.new.takes ≡ true → self.new ≡ self.old) }
         // A crash at any moment leaves the log with the group or without it.
         ensures any_moment { D.meaning.keeps_promises → self.old.takes ≡ true → (before : List LineParts)
-            → HasLog self.old.name before (D.meaning.seen self.old.disk)
-            → LeavesOnly D.meaning self.old.disk self.new.disk (IsLogPut self.old.name (D.meaning.seen self.old.disk) before (map line_parts entries.now)) }
+            → HasLog self.old.name self.old.head before (D.meaning.seen self.old.disk)
+            → LeavesOnly D.meaning self.old.disk self.new.disk (IsLogPut self.old.name self.old.head (D.meaning.seen self.old.disk) before (map line_parts entries.now)) }
         ensures cause { HasDiskCause D.meaning self.old.disk self.new.disk (IsErrOf result F.Failed) }
     {
         if !self.takes {

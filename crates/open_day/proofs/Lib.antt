@@ -1,1 +1,2 @@
 mod ClosedLaws
+mod HeadLaws

@@ -1,4 +1,3 @@
-use Rattle.std.proofs.Common.{arith}
 use Rattle.journal_file.proofs.TextLaws.{sums_left, all_pushed}
 use Rattle.journal_file.proofs.writing.push_sums.Goals as goal
 

@@ -1,9 +1,10 @@
 use Rattle.std.proofs.Common.{◌∙◌, ◌++◌, List, ap, subst, sym}
 use Rattle.std.specs.List.{AllByRecursion}
 use Rattle.live_day.specs.declared.waiting.WaitingAnswer.{WaitingAnswer}
-use Rattle.live_day.specs.Waiting.{IsWaiting, all_shown_after}
+use Rattle.live_day.specs.Waiting.{IsWaiting, ShowsFront, all_shown_after}
 use Rattle.live_day.proofs.ShowLaws.{after_put, shown_both, shown_none}
 use Rattle.live_day.proofs.StopLaws.{goes_on_err, stopped_log, told_err}
+use Rattle.live_day.proofs.StoppedLaws.{cut_front, cut_untold, on_err}
 use Rattle.live_day.proofs.WaitingLaws.{shown_answers, shown_front, tells_answers}
 use Rattle.live_day.proofs.answering.obey_front.Goals as goal
 
@@ -12,7 +13,7 @@ returns-in_err-front-clause-kept g c =
     let m = g.D.Disk.meaning in
     let b = c.lines.new.self in
     shown_none m c.args.day.now b (g.S.Screen.shown c.args.screen.now)
-    (after_put m c.args.day.now b c.lines.ensures.name c.lines.ensures.goes_on c.lines.ensures.others c.lines.ensures.any_moment)
+    (after_put m c.args.day.now b c.lines.ensures.name c.lines.ensures.head c.lines.ensures.goes_on c.lines.ensures.others c.lines.ensures.any_moment)
 
 pub show_all-requires-clause-waiting : goal.show_all-requires-clause-waiting
 show_all-requires-clause-waiting g c =
@@ -26,7 +27,7 @@ returns-in_err-show_all-clause-kept g c =
     let z = g.S.Screen.shown c.show_all.new.self in
     let waiting = subst (λ (l : List WaitingAnswer). AllByRecursion (IsWaiting b.history) l) (sym c.as_slice.ensures.value) c.in_ok-front.ensures.waiting in
     shown_both m c.args.day.now b b x x z
-    (shown_none m c.args.day.now b x (after_put m c.args.day.now b c.lines.ensures.name c.lines.ensures.goes_on c.lines.ensures.others c.lines.ensures.any_moment))
+    (shown_none m c.args.day.now b x (after_put m c.args.day.now b c.lines.ensures.name c.lines.ensures.head c.lines.ensures.goes_on c.lines.ensures.others c.lines.ensures.any_moment))
     (shown_front m b (λ keeps. c.in_ok-front.ensures.logged keeps) (λ keeps. c.in_ok-front.ensures.durable keeps) c.as_slice.result.now x z waiting c.in_err-show_all.ensures.unshown)
 
 pub returns-clause-kept : goal.returns-clause-kept
@@ -37,7 +38,7 @@ returns-clause-kept g c =
     let z = g.S.Screen.shown c.show_all.new.self in
     let waiting = subst (λ (l : List WaitingAnswer). AllByRecursion (IsWaiting b.history) l) (sym c.as_slice.ensures.value) c.in_ok-front.ensures.waiting in
     shown_both m c.args.day.now b b x x z
-    (shown_none m c.args.day.now b x (after_put m c.args.day.now b c.lines.ensures.name c.lines.ensures.goes_on c.lines.ensures.others c.lines.ensures.any_moment))
+    (shown_none m c.args.day.now b x (after_put m c.args.day.now b c.lines.ensures.name c.lines.ensures.head c.lines.ensures.goes_on c.lines.ensures.others c.lines.ensures.any_moment))
     (shown_answers m b (λ keeps. c.in_ok-front.ensures.logged keeps) (λ keeps. c.in_ok-front.ensures.durable keeps) c.as_slice.result.now x z waiting c.in_ok-show_all.ensures.shown)
 
 pub returns-clause-told : goal.returns-clause-told
@@ -61,3 +62,16 @@ returns-in_err-front-clause-fault g c = told_err _ c.from_residual.result _ c.fr
 pub returns-in_err-show_all-clause-fault : goal.returns-in_err-show_all-clause-fault
 returns-in_err-show_all-clause-fault g c =
     told_err _ c.from_residual-in_err-show_all.result _ c.from_residual-in_err-show_all.ensures.1 c.in_err-show_all.ensures.failed
+
+pub returns-in_err-front-clause-cut : goal.returns-in_err-front-clause-cut
+returns-in_err-front-clause-cut g c =
+    on_err c.from_residual.result (cut_untold c.args.station c.args.lines.now c.args.day.now.history c.lines.new.self.history (g.S.Screen.shown c.args.screen.now) c.in_err-front.ensures.first)
+
+pub returns-in_err-show_all-clause-cut : goal.returns-in_err-show_all-clause-cut
+returns-in_err-show_all-clause-cut g c =
+    let m = g.D.Disk.meaning in
+    let b = c.lines.new.self in
+    let x = g.S.Screen.shown c.args.screen.now in
+    let z = g.S.Screen.shown c.show_all.new.self in
+    on_err c.from_residual-in_err-show_all.result (cut_front m b c.args.station c.args.lines.now c.args.day.now.history c.in_ok-front.front b.history x z c.in_ok-front.ensures.obeyed
+    (subst (λ (l : List WaitingAnswer). ShowsFront x z (all_shown_after m b l)) c.as_slice.ensures.value c.in_err-show_all.ensures.unshown))

@@ -1,7 +1,9 @@
 use Rattle.live_day.specs.Groups.{IsNoQuit}
+use Rattle.live_day.specs.Stops.{HasLogOf}
 use Rattle.live_day.proofs.GroupLaws.{all_after, to_more, to_none}
 use Rattle.live_day.proofs.ShowLaws.{after_none, shown_both, shown_none}
 use Rattle.live_day.proofs.StopLaws.{stopped_same, told_err}
+use Rattle.live_day.proofs.StoppedLaws.{log_left, on_err, stopped_to}
 use Rattle.live_day.proofs.answering.obey_lines.Goals as goal
 
 pub obeying-init : goal.obeying-init
@@ -42,3 +44,12 @@ returns-in_err-count-clause-stopped g c =
 
 pub returns-in_err-count-clause-fault : goal.returns-in_err-count-clause-fault
 returns-in_err-count-clause-fault g c = told_err _ c.from_residual.result _ c.from_residual.ensures.1 c.in_err-count.ensures.fault
+
+pub returns-in_err-count-clause-cut : goal.returns-in_err-count-clause-cut
+returns-in_err-count-clause-cut g c =
+    let m = g.D.Disk.meaning in
+    let x = g.S.Screen.shown c.args.screen.now in
+    let y = g.S.Screen.shown c.obeying.screen in
+    let z = g.S.Screen.shown c.obey_some.new.screen in
+    on_err c.from_residual.result (stopped_to (HasLogOf m c.obey_some.new.day) c.args.lines.now c.obeying.rest.now c.args.station c.args.day.now.history c.obeying.seated c.obeying.day.history c.obey_some.new.day.history x y z
+    c.obeying.invariant.to c.in_err-count.ensures.cut (log_left m c.obeying.day c.obey_some.new.day y z c.obey_some.ensures.kept))

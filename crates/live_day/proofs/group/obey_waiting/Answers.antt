@@ -3,6 +3,7 @@ use Rattle.live_day.specs.Sessions.{IsLineRefused}
 use Rattle.live_day.specs.declared.notice.Notice.{Notice}
 use Rattle.live_day.specs.declared.wish.Wish.TheVariants.{Perform, Station}
 use Rattle.live_day.proofs.GroupLaws.{performs_else, refused_line, refused_station, seat_or_none}
+use Rattle.live_day.proofs.StoppedLaws.{on_err}
 use Rattle.live_day.proofs.WaitingLaws.{waits_none}
 use Rattle.live_day.proofs.group.obey_waiting.Goals as goal
 
@@ -31,3 +32,8 @@ pub returns-in-Some-clause-made : goal.returns-in-Some-clause-made
 returns-in-Some-clause-made g c =
     refused_line c.args.station c.args.typed.now _ c.args.day.now.history c.in-Some.notice c.requires.no_quit c.wish_typed.ensures.value c.in-Perform.is
     (subst (λ (o : Option Notice). IfSome o (IsLineRefused c.args.typed.now c.args.day.now.history)) c.in-Some.is c.in_ok-perform_waiting-in-Perform.ensures.refused)
+
+pub returns-in_err-perform_waiting-in-Perform-clause-performed : goal.returns-in_err-perform_waiting-in-Perform-clause-performed
+returns-in_err-perform_waiting-in-Perform-clause-performed g c =
+    let done = c.in_err-perform_waiting-in-Perform.ensures.performed in
+    on_err c.from_residual.result (done.0, record { wish = Perform; asked = performs_else c.args.typed.now _ c.requires.no_quit c.wish_typed.ensures.value c.in-Perform.is; made = (refl, inl done.1) })

@@ -4,6 +4,7 @@ use Rattle.live_day.specs.declared.keyboard.Typed.{Typed}
 use Rattle.live_day.specs.Groups.{IsNoQuit}
 use Rattle.live_day.proofs.GroupLaws.{front_refused, obeyed_next}
 use Rattle.live_day.proofs.SinceLaws.{since_both}
+use Rattle.live_day.proofs.StoppedLaws.{first_performed, on_err}
 use Rattle.live_day.proofs.group.perform_front.Goals as goal
 
 pub front-preserved : goal.front-preserved
@@ -42,3 +43,13 @@ returns-in-Err-clause-obeyed g c =
 
 pub returns-clause-obeyed : goal.returns-clause-obeyed
 returns-clause-obeyed g c = record { within = omega (arith, c.front.invariant.count); obeyed = c.front.invariant.obeyed; stopped = omega (arith, c.front.invariant.count, c.front-test.false) }
+
+pub returns-in_err-next-clause-first : goal.returns-in_err-next-clause-first
+returns-in_err-next-clause-first g c =
+    let lines = c.args.lines.now in
+    let line = c.line-item.result in
+    let count = c.front.count in
+    let is : line ≡ get_or lines count line = c.line-item.is ∙ ap (λ k. get_or lines k line) (sym c.front.invariant.count) in
+    let inside : count < length lines = omega (arith, c.front.invariant.count, c.front-test.true) in
+    let one = c.in_err-next.ensures.performed in
+    on_err c.from_residual.result (first_performed lines count line c.args.station c.args.day.now.history c.front.seated c.front.day.history _ c.front.seated c.obey_waiting.new.day.history one.0 inside is c.front.invariant.obeyed one.1)

@@ -1,7 +1,7 @@
 use Rattle.std.proofs.Common.{◌≡◌, ◌∙◌, ◌++◌, ◌∷◌, [], List, Some, None, ap, refl, subst, sym}
 use Rattle.std.specs.List.{AllByRecursion}
 use Rattle.live_day.specs.declared.waiting.WaitingAnswer.{WaitingAnswer}
-use Rattle.live_day.specs.Sessions.{one_told}
+use Rattle.live_day.specs.Sessions.{answer_told, one_told}
 use Rattle.live_day.specs.Waiting.{IsWaiting}
 use Rattle.live_day.proofs.WaitingLaws.{all_wait_more, all_wait_on, waits_none, waits_now, waits_one}
 use Rattle.live_day.proofs.group.perform_waiting.Goals as goal
@@ -32,3 +32,8 @@ pub returns-in-Ok-None-clause-waiting : goal.returns-in-Ok-None-clause-waiting
 returns-in-Ok-None-clause-waiting g c =
     subst (λ (l : List WaitingAnswer). AllByRecursion (IsWaiting c.perform_typed.new.self.history) l) (sym c.reserve.ensures.items)
     (all_wait_on c.args.day.now.history c.perform_typed.new.self.history c.perform_typed.ensures.since.history c.args.answers.now.items c.requires.waiting)
+
+pub returns-in-Err-Unanswered-clause-performed : goal.returns-in-Err-Unanswered-clause-performed
+returns-in-Err-Unanswered-clause-performed g c =
+    let by = (rw c.in-Err-Unanswered.field-0-is at c.in-Err-Unanswered.ensures.performed) (λ never. never) in
+    (answer_told c.args.station c.perform_typed.new.self.history by.0, record { whole = c.is_cut.ensures.no c.if-is_cut.false; answer = by.0; by_meaning = by.1; told_is = refl })
