@@ -11,6 +11,7 @@ use Rattle.program_frame.specs.declared.ending.Ending.{Ending}
 use Rattle.program_frame.specs.declared.ending.Ending.TheVariants as ended
 use Rattle.program_frame.specs.declared.ending.Failure.{Failure}
 use Rattle.program_frame.specs.declared.ending.Failure.TheVariants as failure
+use Rattle.program_frame.specs.declared.folder.FolderFault.TheVariants.{DayOpen}
 use Rattle.folders.specs.declared.named.NamedFile.{NamedFile}
 use Rattle.audit_program.specs.declared.options.Options.{Options}
 use Rattle.audit_program.specs.declared.failure.AuditFailure.{AuditFailure}
@@ -44,3 +45,11 @@ unread told files words why is h = told_end (IsUnauditedAsAsked files words) tol
 pub unaudited : {T : Type 0} (told : Result T (Ending (Failure AuditFailure))) (files : Option (List NamedFile)) (words : List Text) (options : Options) (why : Failure AuditFailure) → IsErrAnd told (λ ending. ending ≡ ended.Failed why)
     → IsAskedIn words options → IsUnaudited files options options.written why → IfErr told (IsUnauditedAsAsked files words)
 unaudited told files words options why is asked h = told_end (IsUnauditedAsAsked files words) told (ended.Failed why) is (inr (options, why, refl, asked, h))
+
+-- words that are not read are never told so for an open day
+pub unread_not_open : (words : List Text) (why : Ending (Failure AuditFailure)) → IsWhyNotRead words why → why ≡ ended.Failed (failure.Folder DayOpen) → ⊥
+unread_not_open words ended.NoText not_read told = not_read
+unread_not_open words (ended.CommandLine error) not_read told = absurd cc
+unread_not_open words (ended.Failed failure.BadDate) not_read told = absurd cc
+unread_not_open words (ended.Failed (failure.Work fault)) not_read told = absurd cc
+unread_not_open words (ended.Failed (failure.Folder why)) not_read told = not_read

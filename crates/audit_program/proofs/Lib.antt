@@ -1,3 +1,4 @@
+mod AskingLaws
 mod Commands
 pub mod ComparingLaws
 pub mod PrintingLaws

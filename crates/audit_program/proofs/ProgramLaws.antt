@@ -48,7 +48,7 @@ asked files options text parts cut read sums opened found same all noted none fr
 }
 
 unopened_tables : (files : Option (List NamedFile)) (setup : List ℕ) (reindex : Bool) (read : Read) (why : ServeFault) → IsAllRead files setup read → IsOpenFault reindex read why → IsUnopened files setup reindex why
-unopened_tables files setup reindex read (serve.Setup n) all h = absurd h
+unopened_tables files setup reindex read (serve.Setup bad) all h = absurd h
 unopened_tables files setup reindex read (serve.File p f) all h = absurd h
 unopened_tables files setup reindex read (serve.Refused f) all h = (read, all, h)
 unopened_tables files setup reindex read (serve.Run f) all h = absurd h

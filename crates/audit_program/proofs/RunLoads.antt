@@ -39,7 +39,7 @@ module _ (files later : List NamedFile) (options : Options) (today : Day) (writt
 
   pub fails_for_loads : (before after : Option ℕ) (why : AuditFailure) → IsFailedBy (Some later) options why → IsLoadFailure (Some later) options before after why → IsOfMemoryOrLoads (Some later) before after why
   fails_for_loads before after (Serve serve.NoMemory) failed failure = tt
-  fails_for_loads before after (Serve (serve.Setup number)) failed failure = absurd (not_opened (serve.Setup number) failed)
+  fails_for_loads before after (Serve (serve.Setup bad)) failed failure = absurd (not_opened (serve.Setup bad) failed)
   fails_for_loads before after (Serve (serve.File path file.CannotRead)) failed failure = failure
   fails_for_loads before after (Serve (serve.File path file.Unrecovered)) failed failure = absurd (not_opened (serve.File path file.Unrecovered) failed)
   fails_for_loads before after (Serve (serve.File path (file.Image why))) failed failure = absurd (not_opened (serve.File path (file.Image why)) failed)

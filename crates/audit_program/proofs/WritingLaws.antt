@@ -60,7 +60,7 @@ written_by files options today h old new audited said count read lines all wrote
 }
 
 pub unwritten_audit : (files : Option (List NamedFile)) (options : Options) (year : ℕ) (why : AuditFailure) → IsFailedBy files options why → IsUnwritten files options year why
-unwritten_audit files options year (Serve (serve.Setup n)) h = h
+unwritten_audit files options year (Serve (serve.Setup bad)) h = h
 unwritten_audit files options year (Serve (serve.File p f)) h = h
 unwritten_audit files options year (Serve (serve.Refused f)) h = h
 unwritten_audit files options year (Serve (serve.Run f)) h = h
@@ -75,7 +75,7 @@ unwritten_audit files options year (OtherFile path) h = h
 unwritten_audit files options year (Audit f) h = h
 
 pub unwritten_tables : (files : Option (List NamedFile)) (options : Options) (year : ℕ) (h : History) (said : Audited) (why : ServeFault) → IsAuditedTo files options h said → IsTablesFault h year why → IsUnwritten files options year (Serve why)
-unwritten_tables files options year h said (serve.Setup n) audited t = absurd t
+unwritten_tables files options year h said (serve.Setup bad) audited t = absurd t
 unwritten_tables files options year h said (serve.File p f) audited t = absurd t
 unwritten_tables files options year h said (serve.Refused f) audited t = absurd t
 unwritten_tables files options year h said (serve.Run f) audited t = absurd t
@@ -89,7 +89,7 @@ no_close files options r name h e = subst (λ (x : Result Audited AuditFailure).
 -- no load has failed where the tables' files can't be written
 pub loaded_tables : (files : Option (List NamedFile)) (options : Options) (year : ℕ) (h : History) (said : Audited) (before after : Option ℕ) (why : ServeFault) → IsAuditedTo files options h said → after ≡ before → IsTablesFault h year why
     → IsLoadFailure files options before after (Serve why)
-loaded_tables files options year h said before after (serve.Setup n) audited same t = absurd t
+loaded_tables files options year h said before after (serve.Setup bad) audited same t = absurd t
 loaded_tables files options year h said before after (serve.File p f) audited same t = absurd t
 loaded_tables files options year h said before after (serve.Refused f) audited same t = absurd t
 loaded_tables files options year h said before after (serve.Run f) audited same t = absurd t
@@ -98,7 +98,7 @@ loaded_tables files options year h said before after serve.NoMemory audited same
 
 -- an audit that failed cut no file
 pub uncut_audit : (files : Option (List NamedFile)) (options : Options) (today : Day) (old new : Option (List ℕ)) (why : AuditFailure) → IsFailedBy files options why → IsCutAudit files options today old new why
-uncut_audit files options today old new (Serve (serve.Setup n)) h = tt
+uncut_audit files options today old new (Serve (serve.Setup bad)) h = tt
 uncut_audit files options today old new (Serve (serve.File p f)) h = tt
 uncut_audit files options today old new (Serve (serve.Refused f)) h = tt
 uncut_audit files options today old new (Serve (serve.Run f)) h = tt
@@ -114,7 +114,7 @@ uncut_audit files options today old new (Audit f) h = tt
 
 pub cut_audit : (files : Option (List NamedFile)) (options : Options) (today : Day) (h : History) (said : Audited) (old new : Option (List ℕ)) (why : ServeFault) → IsAuditedTo files options h said → IsCutTables h today old new why
     → IsCutAudit files options today old new (Serve why)
-cut_audit files options today h said old new (serve.Setup n) audited cut = tt
+cut_audit files options today h said old new (serve.Setup bad) audited cut = tt
 cut_audit files options today h said old new (serve.File p f) audited cut = tt
 cut_audit files options today h said old new (serve.Refused f) audited cut = tt
 cut_audit files options today h said old new (serve.Run f) audited cut = tt

@@ -7,7 +7,9 @@ use Rattle.program_frame.specs.declared.ending.Ending.{Ending}
 use Rattle.program_frame.specs.declared.ending.Ending.TheVariants as ended
 use Rattle.program_frame.specs.declared.ending.Failure.{Failure}
 use Rattle.program_frame.specs.declared.ending.Failure.TheVariants as failure
+use Rattle.program_frame.specs.BesideDay.{HasOpenDayIn, IsWithoutDay}
 use Rattle.program_frame.specs.CommandLine.{flag_rule, option_rule, program_app, required_rule, GivesDay, HasBadDate, IsFlag}
+use Rattle.program_frame.specs.InputDays.{FileAnswers}
 use Rattle.program_frame.specs.Jobs.{ComesToItsEnd, IsRunFailure}
 use Rattle.program_frame.specs.Placing.{HasPutInto}
 use Rattle.folders.specs.declared.named.NamedFile.{NamedFile}
@@ -15,6 +17,7 @@ use Rattle.audit_program.specs.declared.audited.Audited.{Audited}
 use Rattle.audit_program.specs.declared.failure.AuditFailure.{AuditFailure}
 use Rattle.audit_program.specs.declared.options.Options.{Options}
 use Rattle.audit_program.specs.declared.options.Written.{Written}
+use Rattle.audit_program.specs.Asking.{IsAuditDay}
 use Rattle.audit_program.specs.Endings.{no_memory}
 use Rattle.audit_program.specs.Program.{IsAuditedBy, IsFailedBy}
 use Rattle.audit_program.specs.Writing.{IsUnwritten, IsWrittenBy}
@@ -69,17 +72,30 @@ IsWhyNotRead words (ended.Failed why) = ⊥
 
 -- ---- the audit
 
--- all entries hold, as the options ask; and where they name a folder, the files of the tables at their end are in it
-abbrev pub IsAuditedFor : {D : Type 0} → DiskMeaning D → (List ℕ → D → Type 0) → Option (List NamedFile) → Options → Option Written → Audited → Type 0
-IsAuditedFor {D} m is_folder files options None audited = IsAuditedBy files options audited
-IsAuditedFor {D} m is_folder files options (Some written) audited =
-    HasPutInto m (is_folder written.out.now) (λ made. IsWrittenBy files options written.today made audited)
+-- All entries hold, as the options ask. Where they name a folder, the files of the tables at their end are in it; no day was open there, nor
+-- in a folder from which the audit read.
+abbrev pub IsAuditedFor : {D : Type 0} → DiskMeaning D → (List ℕ → D → Type 0) → FileAnswers → Option (List NamedFile) → Options → Option Written → Audited
+    → Type 0
+IsAuditedFor {D} m is_folder answers files options None audited = IsAuditedBy files options audited
+IsAuditedFor {D} m is_folder answers files options (Some written) audited =
+    IsAuditDay answers files options false × HasPutInto m (IsWithoutDay m answers (is_folder written.out.now))
+    (λ made. IsWrittenBy files options written.today made audited)
 
 -- the words ask for an audit, and this is said of the journal
-pub record IsAuditedAsAsked {D : Type 0} (m : DiskMeaning D) (is_folder : List ℕ → D → Type 0) (files : Option (List NamedFile)) (words : List Text) (said : Audited) : Type 0 where
+pub record IsAuditedAsAsked {D : Type 0} (m : DiskMeaning D) (is_folder : List ℕ → D → Type 0) (answers : FileAnswers) (files : Option (List NamedFile))
+    (words : List Text) (said : Audited) : Type 0 where
   pub options : Options
   pub asked : IsAskedIn words options
-  pub audited : IsAuditedFor m is_folder files options options.written said
+  pub audited : IsAuditedFor m is_folder answers files options options.written said
+
+-- the options name a folder in which a day is open, or a day is open in one from which the audit reads
+abbrev pub IsForOpenDay : {D : Type 0} → DiskMeaning D → (List ℕ → D → Type 0) → FileAnswers → Option (List NamedFile) → Options → Type 0
+IsForOpenDay {D} m is_folder answers files options =
+    (written : Written) × (options.written ≡ Some written) × (HasOpenDayIn m answers (is_folder written.out.now) ⊎ IsAuditDay answers files options true)
+
+-- and so do the words
+abbrev pub AskForOpenDay : {D : Type 0} → DiskMeaning D → (List ℕ → D → Type 0) → FileAnswers → Option (List NamedFile) → List Text → Type 0
+AskForOpenDay {D} m is_folder answers files words = (options : Options) × IsAskedIn words options × IsForOpenDay m is_folder answers files options
 
 -- why it is not said that all entries hold, or where a folder is named, why the files are not in it
 abbrev pub IsUnaudited : Option (List NamedFile) → Options → Option Written → Failure AuditFailure → Type 0

@@ -77,7 +77,7 @@ reindex_reason false = codes "the run was without --reindex"
 -- of a failure what is said
 abbrev pub reason : AuditFailure → List ℕ
 reason (failure.Serve why) = fault_reason why
-reason failure.Unread = codes "cannot read the journal"
+reason failure.Unread = codes "cannot read the journal: is it there, a file, and may it be read?"
 reason (failure.UnrecoveredJournal path) = unread_file path file.Unrecovered
 reason (failure.NoJournal path) = path ++ codes " is no journal"
 reason (failure.CutJournal path) = path ++ codes " is cut"

@@ -4,3 +4,4 @@ pub mod Writing
 pub mod Asked
 pub mod Endings
 pub mod Laws
+pub mod Asking

@@ -99,7 +99,9 @@ impl Reason for AuditFailure {
     fn print<W: Write>(&self, out: &mut W) -> io::Result<()> {
         match self {
             AuditFailure::Serve(fault) => print_fault(out, fault),
-            AuditFailure::Unread => out.write_all(b"cannot read the journal"),
+            AuditFailure::Unread => {
+                out.write_all(b"cannot read the journal: is it there, a file, and may it be read?")
+            }
             AuditFailure::UnrecoveredJournal(path) => print_unread(
                 out,
                 path,

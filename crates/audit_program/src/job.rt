@@ -1,5 +1,6 @@
 //! The audit that a command line asks for with a folder for the tables.
 
+use crate::asking::refuse_open_run;
 use crate::audited::Audited;
 use crate::failure::AuditFailure;
 use crate::options::Options;
@@ -7,7 +8,7 @@ use crate::writing::audit_into;
 use dbf_fields::Day;
 use folders::{Folder, Source};
 use office_run::{CloseFault, ServeFault};
-use program_frame::{Job, Work};
+use program_frame::{Beside, Failure, Job, Work};
 use std::alloc::Global;
 use std::io::Write;
 
@@ -22,6 +23,7 @@ pub(crate) struct AuditJob<'a> {
 
 impl<'a> Job for AuditJob<'a> {
     ghost use Rattle.std.specs.Prelude.{◌≡◌};
+    ghost use Rattle.audit_program.specs.Asking.{IsAuditDay};
     ghost use Rattle.audit_program.specs.Program.{IsLoadFailure};
     ghost use Rattle.audit_program.specs.Writing.{says_unwritten, IsUnwritten, IsWrittenBy};
 
@@ -36,6 +38,17 @@ impl<'a> Job for AuditJob<'a> {
     ghost loads = { λ job files before after failure. IsLoadFailure files job.options before after failure };
 
     ghost is_unwritten = { says_unwritten };
+
+    ghost finds_day = { λ job answers files found. IsAuditDay answers files job.options found };
+
+    fn refuse_open_day<S: Source, B: Beside>(
+        &self,
+        alloc: Global,
+        source: &mut S,
+        system: &B,
+    ) -> Result<(), Failure<AuditFailure>> {
+        refuse_open_run(alloc, &self.options, source, system)
+    }
 
     fn is_unwritten(fault: &AuditFailure) -> bool
         ensures value { result ≡ says_unwritten fault.now }

@@ -9,6 +9,7 @@
 //! one that was changed, is in `law.rt`.
 #![tactic(auto)]
 
+mod asking;
 mod audited;
 mod auditing;
 mod comparing;

@@ -1,7 +1,7 @@
 //! What the program does with the words of its command line.
 
-ghost use Rattle.std.specs.Prelude.{◌≡◌, IfErr, IfOk, map};
-ghost use Rattle.audit_program.specs.Asked.{IsAuditedAsAsked, IsAuditedFor, IsUnaudited, IsUnauditedAsAsked};
+ghost use Rattle.std.specs.Prelude.{◌≡◌, IfErr, IfOk, IsErrOf, map};
+ghost use Rattle.audit_program.specs.Asked.{AskForOpenDay, IsAuditedAsAsked, IsAuditedFor, IsForOpenDay, IsUnaudited, IsUnauditedAsAsked};
 
 use crate::audited::Audited;
 use crate::auditing::audit_options;
@@ -9,7 +9,7 @@ use crate::failure::AuditFailure;
 use crate::job::AuditJob;
 use crate::options::{Options, read_options};
 use folders::Source;
-use program_frame::{Ending, Failure, System, run_into};
+use program_frame::{Ending, Failure, FolderFault, System, run_into};
 use std::alloc::Global;
 use std::convert::AsStr;
 use std::io::Write;
@@ -18,6 +18,7 @@ use std::io::Write;
 pub const PROGRAM: &str = "station_audit";
 
 // Audits the journal of a command line, and where it names a folder, writes the tables at its end into it.
+#[tactic(auto, using(crate::proofs::AskingLaws::with_no_day))]
 fn run_options<Y: System, S: Source, E: Write>(
     alloc: Global,
     system: &Y,
@@ -25,8 +26,10 @@ fn run_options<Y: System, S: Source, E: Write>(
     err: &mut E,
     options: Options<'_>,
 ) -> Result<Audited, Failure<AuditFailure>>
-    ensures audited { IfOk result (IsAuditedFor Y.Disk.meaning (Y.opens system.now) (S.files source.old) options.entry options.entry.written) }
+    ensures audited { IfOk result (IsAuditedFor Y.Disk.meaning (Y.opens system.now) (Y.answers system.now) (S.files source.old) options.entry options.entry.written) }
     ensures fault { IfErr result (IsUnaudited (S.files source.old) options.entry options.entry.written) }
+    ensures open_day { IsErrOf result (Failure.Folder FolderFault.DayOpen)
+        → IsForOpenDay Y.Disk.meaning (Y.opens system.now) (Y.answers system.now) (S.files source.old) options.entry }
     ensures kept { S.files source.new ≡ S.files source.old }
 {
     match options.written {
@@ -45,7 +48,8 @@ fn run_options<Y: System, S: Source, E: Write>(
 }
 
 /// Audits as the words of a command line ask for, of which the first is the program's name. Files are read from the source; where
-/// the words name a folder, the tables at the journal's end are put into it, which no other run has meanwhile.
+/// the words name a folder, the tables at the journal's end are put into it, which no other run has meanwhile; not where a live day is
+/// open in it, or in one from which the audit reads.
 pub fn run_program<Y: System, S: Source, E: Write, T: AsStr>(
     alloc: Global,
     system: &Y,
@@ -53,8 +57,11 @@ pub fn run_program<Y: System, S: Source, E: Write, T: AsStr>(
     err: &mut E,
     words: &[T],
 ) -> Result<Audited, Ending<Failure<AuditFailure>>>
-    ensures audited { IfOk result (IsAuditedAsAsked Y.Disk.meaning (Y.opens system.now) (S.files source.old) (map T.text words.entry.now)) }
+    ensures audited { IfOk result (IsAuditedAsAsked Y.Disk.meaning (Y.opens system.now) (Y.answers system.now) (S.files source.old) (map T.text words.entry.now)) }
     ensures fault { IfErr result (IsUnauditedAsAsked (S.files source.old) (map T.text words.entry.now)) }
+    // That a day is open is said only where it is: in the folder that the words name, or in one from which the audit reads.
+    ensures open_day { IsErrOf result (Ending.Failed (Failure.Folder FolderFault.DayOpen))
+        → AskForOpenDay Y.Disk.meaning (Y.opens system.now) (Y.answers system.now) (S.files source.old) (map T.text words.entry.now) }
     ensures kept { S.files source.new ≡ S.files source.old }
 {
     let options = read_options(alloc, words)?;

@@ -2,16 +2,18 @@
 //!
 //! A run writes each new file under the name of its table or index: `STAFF.DBF`, `STAFF.DBT`, `NAMES.NDX`. Where new files go
 //! into the folder of a file of another name, as `staff.dbf`, that file stays as it is, and the next run reads it again.
-//! [`kept_file`] and [`kept_memo_file`] tell such files, which are defined in `specs/KeptFiles.antt`. Start reading there.
+//! [`kept_file`] and [`kept_memo_file`] tell such files, which are defined in `specs/KeptFiles.antt`; [`new_file`] and [`new_memo_file`]
+//! tell each new file, [`new_path`] where it comes to lie. Start reading there.
 #![tactic(auto)]
 
-ghost use Rattle.std.specs.Prelude.{◌≡◌, ◌++◌, bytes_eq, option_map};
+ghost use Rattle.std.specs.Prelude.{◌≡◌, ◌++◌, bytes_eq, option_map, IfOk};
 ghost use Rattle.folders.specs.Paths.{name_at_end};
-ghost use Rattle.kept_files.specs.KeptFiles.{ending_of, kept, kept_of, kept_unless_named, kept_file_in, kept_memo_file_in};
+ghost use Rattle.kept_files.specs.KeptFiles.{ending_of, kept, kept_of, kept_unless_named, kept_file_in, kept_memo_file_in, has_own_name, new_file_in, new_memo_file_in, path_in};
 
 use byte_io::Bytes;
 use folders::file_name;
 use station_lines::SetupEntry;
+use std::alloc::{AllocError, Global};
 
 /// What a new file has.
 #[derive(Clone, Copy, Debug, PartialEq, Eq)]
@@ -37,7 +39,7 @@ impl NewKind {
     }
 }
 
-/// A file that a setup names and whose name is not the new file's.
+/// A file that a setup names, and the new file that is written of it.
 #[derive(Clone, Copy, Debug)]
 pub struct KeptFile<'a> {
     /// Its path, as in the setup.
@@ -93,4 +95,63 @@ pub fn kept_memo_file(entry: &SetupEntry) -> Option<KeptFile<'_>>
         } => unless_named(dbt, name, NewKind::Memos),
         _ => None,
     }
+}
+
+/// The DBF file of a table or the NDX file of an index that an entry of a setup names, whatever its name is. Takes no memory.
+pub fn new_file(entry: &SetupEntry) -> Option<KeptFile<'_>>
+    ensures value { option_map kept_of result ≡ new_file_in entry.now }
+{
+    match entry {
+        SetupEntry::Table { name, dbf, .. } => Some(KeptFile {
+            path: dbf,
+            name,
+            kind: NewKind::Table,
+        }),
+        SetupEntry::Index { name, ndx, .. } => Some(KeptFile {
+            path: ndx,
+            name,
+            kind: NewKind::Index,
+        }),
+        SetupEntry::Station { .. } => None,
+    }
+}
+
+/// The DBT file of a table that an entry of a setup names, whatever its name is. Takes no memory.
+pub fn new_memo_file(entry: &SetupEntry) -> Option<KeptFile<'_>>
+    ensures value { option_map kept_of result ≡ new_memo_file_in entry.now }
+{
+    match entry {
+        SetupEntry::Table {
+            name,
+            dbt: Some(dbt),
+            ..
+        } => Some(KeptFile {
+            path: dbt,
+            name,
+            kind: NewKind::Memos,
+        }),
+        _ => None,
+    }
+}
+
+/// Whether the path of a file ends with the name of the new file. Takes no memory.
+pub fn is_own_name(file: KeptFile<'_>) -> bool
+    ensures value { result ≡ has_own_name (kept_of file.entry) }
+{
+    is_named(
+        file.path.as_slice(),
+        file.name.as_slice(),
+        file.kind.ending(),
+    )
+}
+
+/// The path of the new file in a folder. An error where memory is refused.
+pub fn new_path(alloc: Global, folder: &str, file: KeptFile<'_>) -> Result<Vec<u8>, AllocError>
+    ensures value { IfOk result (λ path. path.items ≡ path_in folder.now (kept_of file.entry)) }
+{
+    let mut path = Vec::from_slice(alloc, folder.as_bytes())?;
+    path.extend_from_slice(b"/")?;
+    path.extend_from_slice(file.name.as_slice())?;
+    path.extend_from_slice(file.kind.ending())?;
+    Ok(path)
 }

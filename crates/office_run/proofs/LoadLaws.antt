@@ -21,7 +21,7 @@ use Rattle.station_lines.specs.declared.setup.fault.SetupFault.{SetupFault}
 use Rattle.station_lines.specs.declared.setup.fault.SetupFault.TheVariants.{Bad, NoMemory as NoMemoryToParse}
 use Rattle.station_lines.specs.Setup.{IsSetup}
 use Rattle.office_run.specs.Loading.{Read, nothing, file_fault, refusal_told, first_refused, HasIndex, IsEntryFault, IsFailure, IsIndexRead, IsTableRead, Loads, LoadAll, read_as}
-use Rattle.office_run.specs.WholeRun.{setup_fault, IsReadFault}
+use Rattle.office_run.specs.WholeRun.{IsReadFault, IsSetupFault}
 
 load_all_last : (files : Option (List NamedFile)) (entries : List SetupEntry) (entry : SetupEntry) (a b c : Read)
     → LoadAll files entries a b → Loads files entry b c → LoadAll files (entries ++ entry ∷ []) a c
@@ -41,9 +41,18 @@ err_exit (Ok x) P h p = absurd h
 err_exit (Err y) P h p = subst P (sym h) p
 
 -- why a setup that was loaded says nothing
-pub unsaid : (files : Option (List NamedFile)) (setup text : List ℕ) (fault : SetupFault) → IsFileOf files setup text → ((n : ℕ) → fault ≡ Bad n → IsSetup text (Err n)) → IsReadFault files setup (setup_fault fault)
-unsaid files setup text (Bad n) found bad = record { text = text; found = found; says = bad n refl }
-unsaid files setup text NoMemoryToParse found bad = tt
+pub unsaid : (files : Option (List NamedFile)) (setup text : List ℕ) (fault : SetupFault) (told : ServeFault) → IsFileOf files setup text
+    → ((n : ℕ) → fault ≡ Bad n → IsSetup text (Err n)) → IsSetupFault text fault told → IsReadFault files setup told
+unsaid files setup text (Bad n) told found bad is =
+    subst (λ (f : ServeFault). IsReadFault files setup f) (sym is.2)
+    (record { text = text; found = found; says = subst (λ (k : ℕ). IsSetup text (Err k)) (sym is.1.line) (bad n refl) })
+unsaid files setup text NoMemoryToParse told found bad is = subst (λ (f : ServeFault). IsReadFault files setup f) (sym is) tt
+
+-- and no load has failed then
+pub unsaid_loads : (files : Option (List NamedFile)) (text : List ℕ) (before after : Option ℕ) (fault : SetupFault) (told : ServeFault) → IsSetupFault text fault told
+    → after ≡ before → IsFailure files before after told
+unsaid_loads files text before after (Bad n) told is same = subst (λ (f : ServeFault). IsFailure files before after f) (sym is.2) same
+unsaid_loads files text before after NoMemoryToParse told is same = subst (λ (f : ServeFault). IsFailure files before after f) (sym is) tt
 
 -- a table is loaded where it is added to the others
 pub table_loads : {T E : Type 0} (r : Result T E) (files : Option (List NamedFile)) (name dbf : List ℕ) (dbt : Option (List ℕ)) (table : TableSource) (old new : Read)

@@ -245,7 +245,7 @@ setup_never files setup number read all bad =
 -- what opened once
 pub never_refused : (files : List NamedFile) (setup : List ℕ) → NeverRefused files setup
 never_refused files setup reindex opened once NoMemory un = tt
-never_refused files setup reindex opened once (Setup number) un = absurd (setup_never files setup number once.read once.all un)
+never_refused files setup reindex opened once (Setup bad) un = absurd (setup_never files setup bad.number once.read once.all un)
 never_refused files setup reindex opened once (File path fault) un = read_never files setup path fault once.read once.all un
 never_refused files setup reindex opened once (Refused fault) un =
     absurd (un.2.0 (opening_never reindex once.read un.0 opened.tables fault (reads_alike files setup once.read un.0 once.all un.1) once.from.opening un.2.1))

@@ -13,7 +13,7 @@ opened_by files setup reindex read opened all from = record { read = read; all =
 
 pub unread : (files : Option (List NamedFile)) (setup : List ℕ) (reindex : Bool) (fault : ServeFault) → IsReadFault files setup fault → IsUnopened files setup reindex fault
 unread files setup reindex NoMemory h = tt
-unread files setup reindex (Setup number) h = h
+unread files setup reindex (Setup bad) h = h
 unread files setup reindex (File path why) h = h
 unread files setup reindex (Refused why) h = absurd h
 unread files setup reindex (Run why) h = absurd h
@@ -21,7 +21,7 @@ unread files setup reindex (Close why) h = absurd h
 
 pub unopened : (files : Option (List NamedFile)) (setup : List ℕ) (reindex : Bool) (read : Read) (fault : ServeFault) → IsAllRead files setup read → IsOpenFault reindex read fault → IsUnopened files setup reindex fault
 unopened files setup reindex read NoMemory all h = tt
-unopened files setup reindex read (Setup number) all h = absurd h
+unopened files setup reindex read (Setup bad) all h = absurd h
 unopened files setup reindex read (File path why) all h = absurd h
 unopened files setup reindex read (Refused why) all h = (read, all, h)
 unopened files setup reindex read (Run why) all h = absurd h

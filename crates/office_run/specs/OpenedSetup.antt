@@ -31,7 +31,7 @@ pub record IsOpenedBy (files : Option (List NamedFile)) (setup : List ℕ) (rein
 -- why the setup's tables are not opened
 abbrev pub IsUnopened : Option (List NamedFile) → List ℕ → Bool → ServeFault → Type 0
 IsUnopened files setup reindex NoMemory = Unit {0}
-IsUnopened files setup reindex (Setup number) = IsReadFault files setup (Setup number)
+IsUnopened files setup reindex (Setup bad) = IsReadFault files setup (Setup bad)
 IsUnopened files setup reindex (File path fault) = IsReadFault files setup (File path fault)
 IsUnopened files setup reindex (Refused fault) = (read : Read) × IsAllRead files setup read × IsOpenFault reindex read (Refused fault)
 IsUnopened files setup reindex fault = ⊥

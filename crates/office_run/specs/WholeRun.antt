@@ -1,5 +1,5 @@
 -- A whole run, from a setup and its files to the files that are written.
-use Rattle.std.specs.Prelude.{◌≡◌, ◌≢◌, ◌⊎◌, ◌≤◌, ℕ, Bool, List, length, Option, Some, Result, Ok, Err}
+use Rattle.std.specs.Prelude.{◌≡◌, ◌≢◌, ◌⊎◌, ◌≤◌, ℕ, Bool, List, length, Option, Some, IfSome, Result, Ok, Err}
 use Rattle.dbf_image.specs.Image.{IsOutside}
 use Rattle.catalogue_core.specs.declared.catalogue.TheConstants.{MAX_ENTRIES}
 use Rattle.catalogue_core.specs.declared.opening.OpenFault.{OpenFault}
@@ -15,6 +15,7 @@ use Rattle.office_run.specs.declared.run_fault.RunFault.TheVariants.{ScriptCount
 use Rattle.station_lines.specs.declared.setup.entry.SetupEntry.{SetupEntry}
 use Rattle.station_lines.specs.declared.setup.fault.SetupFault.{SetupFault}
 use Rattle.station_lines.specs.declared.setup.fault.SetupFault.TheVariants.{Bad, NoMemory as NoMemoryToParse}
+use Rattle.office_run.specs.declared.fault.BadSetup.{BadSetup}
 use Rattle.office_run.specs.declared.fault.FileFault.{FileFault}
 use Rattle.office_run.specs.declared.fault.ServeFault.{ServeFault}
 use Rattle.office_run.specs.declared.fault.ServeFault.TheVariants.{Setup, File, Refused, Run, Close, NoMemory}
@@ -24,6 +25,7 @@ use Rattle.office_run.specs.HandedOver.{AreHandedOver}
 use Rattle.office_run.specs.Loading.{Read, nothing, LoadAll, IsUnloaded, IsFaultIn}
 use Rattle.office_run.specs.RunFaults.{IsFaultOfRun}
 use Rattle.office_run.specs.Reports.{AreReports}
+use Rattle.setup_check.specs.ScriptLines.{IsBadSetupText}
 use Rattle.station_lines.specs.Setup.{IsSetup}
 
 -- ---- reading
@@ -49,15 +51,21 @@ IsUnreadFile files setup path fault =
 -- why not all is read
 abbrev pub IsReadFault : Option (List NamedFile) → List ℕ → ServeFault → Type 0
 IsReadFault files setup NoMemory = Unit {0}
-IsReadFault files setup (Setup number) = IsSaid files setup (Err number)
+IsReadFault files setup (Setup bad) = IsSaid files setup (Err bad.number)
 IsReadFault files setup (File path fault) = IsUnreadFile files setup path fault
 IsReadFault files setup fault = ⊥
 
 -- ---- faults of steps, where want of memory is the whole run's own
 
-abbrev pub setup_fault : SetupFault → ServeFault
-setup_fault (Bad number) = Setup number
-setup_fault NoMemoryToParse = NoMemory
+-- the line of a setup of this text that is bad, and what is told of it, which is why
+pub record IsBadSetup (text : List ℕ) (number : ℕ) (bad : BadSetup) : Type 0 where
+  pub line : bad.number ≡ number
+  pub why : IfSome bad.told (IsBadSetupText text number)
+
+-- why a setup of this text says nothing
+abbrev pub IsSetupFault : List ℕ → SetupFault → ServeFault → Type 0
+IsSetupFault text (Bad number) fault = (bad : BadSetup) × IsBadSetup text number bad × (fault ≡ Setup bad)
+IsSetupFault text NoMemoryToParse fault = fault ≡ NoMemory
 
 abbrev pub open_fault : OpenFault → ServeFault
 open_fault NoMemoryToOpen = NoMemory
@@ -122,7 +130,7 @@ pub record IsWholeRun (files : Option (List NamedFile)) (setup : List ℕ) (rein
 -- why a whole run does not come to its end, step by step
 abbrev pub IsServeFault : Option (List NamedFile) → List ℕ → Bool → ℕ → ServeFault → Type 0
 IsServeFault files setup reindex year NoMemory = Unit {0}
-IsServeFault files setup reindex year (Setup number) = IsReadFault files setup (Setup number)
+IsServeFault files setup reindex year (Setup bad) = IsReadFault files setup (Setup bad)
 IsServeFault files setup reindex year (File path fault) = IsReadFault files setup (File path fault)
 IsServeFault files setup reindex year (Refused fault) = (read : Read) × IsAllRead files setup read × IsRunFault reindex read (Refused fault)
 IsServeFault files setup reindex year (Run fault) = (read : Read) × IsAllRead files setup read × IsRunFault reindex read (Run fault)

@@ -6,7 +6,6 @@ use byte_io::Bytes;
 use catalogue_core::OpenFault;
 use dbf_image::ImageFault;
 use ndx_index::NdxFault;
-use station_lines::SetupFault;
 use std::alloc::{AllocError, AllocFailed};
 
 /// Why a file was not read.
@@ -22,11 +21,20 @@ pub enum FileFault {
     Ndx(NdxFault),
 }
 
+/// A bad line of a setup.
+#[derive(Debug, PartialEq, Eq, Drop)]
+pub struct BadSetup {
+    /// Its number, from 1.
+    pub number: usize,
+    /// What is told of it: its number, and why it is bad. There is none where memory was refused for it.
+    pub told: Option<Bytes>,
+}
+
 /// Why a whole run did not come to its end. The order is that of its steps.
 #[derive(Debug, PartialEq, Eq, Drop)]
 pub enum ServeFault {
-    /// The setup's line of this number, from 1, is bad.
-    Setup(usize),
+    /// A line of the setup is bad.
+    Setup(BadSetup),
     /// The file of this path was not read. Of a table's two files the reader's fault names the DBF.
     File(Bytes, FileFault),
     /// The catalogue was not opened.
@@ -58,20 +66,6 @@ impl<T: Drop> From<AllocFailed<T>> for ServeFault {
 
     fn from(_refused: AllocFailed<T>) -> ServeFault {
         ServeFault::NoMemory
-    }
-}
-
-impl From<SetupFault> for ServeFault {
-    ghost use Rattle.std.specs.Prelude.{◌≡◌};
-    ghost use Rattle.office_run.specs.WholeRun.{setup_fault};
-
-    ghost from_gives = { λ fault serve. serve ≡ setup_fault fault };
-
-    fn from(fault: SetupFault) -> ServeFault {
-        match fault {
-            SetupFault::Bad(number) => ServeFault::Setup(number),
-            SetupFault::NoMemory => ServeFault::NoMemory,
-        }
     }
 }
 

@@ -240,7 +240,7 @@ fn load_entry<S: Source>(
 
 /// Loads and reads what the entries of a setup name, entry by entry; each index stands after its table. The fault is
 /// that of the first entry whose files are not read. Each file that is read is noted where a journal is wanted.
-pub(crate) fn load_entries<S: Source>(
+pub fn load_entries<S: Source>(
     alloc: Global,
     source: &mut S,
     entries: &[SetupEntry],

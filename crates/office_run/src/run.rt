@@ -9,13 +9,13 @@ ghost use Rattle.station_lines.specs.Setup.{IndexesFollowTables};
 ghost use Rattle.setup_files.specs.Noted.{AreNoted};
 ghost use Rattle.office_run.specs.FileSums.{AreAllNoted};
 ghost use Rattle.office_run.specs.Loading.{read_of, IsFailure};
-ghost use Rattle.office_run.specs.WholeRun.{IsAllRead, IsReadFault, IsRun, IsRunFault, IsSaid, IsWriteFault, IsCutWriting};
+ghost use Rattle.office_run.specs.WholeRun.{IsAllRead, IsBadSetup, IsReadFault, IsRun, IsRunFault, IsSaid, IsSetupFault, IsWriteFault, IsCutWriting};
 
 use crate::catalogue::run_catalogue;
 use crate::close::close_files;
 use crate::close_fault::CloseFault;
 use crate::closed::ClosedTable;
-use crate::fault::ServeFault;
+use crate::fault::{BadSetup, ServeFault};
 use crate::gate::Gate;
 use crate::load::{load_entries, load_file};
 use crate::loaded::Loaded;
@@ -25,13 +25,36 @@ use catalogue_core::{Catalogue, OpenFault};
 use dbf_fields::Day;
 use folders::{Folder, Source};
 use journal_file::ReadSums;
-use station_lines::{SetupEntry, parse_setup};
+use setup_check::bad_setup_text;
+use station_lines::{SetupEntry, SetupFault, parse_setup};
 use std::alloc::Global;
 use std::sync::Wait;
 use std::thread::Threads;
 
-// What the setup of a path says, whose bytes are noted where a journal is wanted.
-fn load_setup<S: Source>(
+// The bad line of this number of a setup of this text, and why it is bad.
+fn bad_setup(alloc: Global, text: &[u8], number: usize) -> BadSetup
+    ensures bad { IsBadSetup text.now number result }
+{
+    let told = match bad_setup_text(alloc, text, number) {
+        Ok(told) => Some(Bytes::from_vec(told)),
+        Err(_) => None,
+    };
+    BadSetup { number, told }
+}
+
+// Why a setup of this text says nothing.
+fn setup_fault(alloc: Global, text: &[u8], fault: SetupFault) -> ServeFault
+    ensures value { IsSetupFault text.now fault result }
+{
+    match fault {
+        SetupFault::Bad(number) => ServeFault::Setup(bad_setup(alloc, text, number)),
+        SetupFault::NoMemory => ServeFault::NoMemory,
+    }
+}
+
+/// What the setup of a path says: its entries, in their order. It is noted where a journal is wanted.
+#[tactic(auto, using(crate::proofs::LoadLaws::unsaid, crate::proofs::LoadLaws::unsaid_loads))]
+pub fn load_setup<S: Source>(
     alloc: Global,
     source: &mut S,
     setup: &Bytes,
@@ -46,7 +69,10 @@ fn load_setup<S: Source>(
     ensures failure { IfErr result (IsFailure (S.files source.old) (S.failures source.old) (S.failures source.new)) }
 {
     let text = load_file(alloc, source, setup, sums)?;
-    Ok(parse_setup(alloc, text.as_slice())?)
+    match parse_setup(alloc, text.as_slice()) {
+        Ok(entries) => Ok(entries),
+        Err(fault) => Err(setup_fault(alloc, text.as_slice(), fault)),
+    }
 }
 
 /// What the setup of a path says: its entries, in their order. The faults are those of [`serve`] at the setup.

@@ -1,11 +1,10 @@
 -- How work ends that writes into the folder of a disk.
 use Rattle.std.proofs.Common.{◌≡◌, ◌≢◌, ℕ, ◌<◌, ◌≤◌, arith, List, [], Option, Some, None, Result, Ok, Err, inl, inr, refl, ap, ◌∙◌, subst}
-use Rattle.std.specs.Prelude.{IfErr, IfSome, IsErr, IsErrOf, OnOk}
+use Rattle.std.specs.Prelude.{IfErr, IfSome, IsErr, IsErrAnd, IsErrOf, OnOk}
 use Rattle.files_in_place.specs.Disk.{DiskMeaning, IsSyncedDisk, LeavesOnly}
 use Rattle.files_in_place.specs.Folder.{recovered}
 use Rattle.files_in_place.specs.Recovery.{HasOldFiles}
 use Rattle.files_in_place.specs.Staged.{HasBeenReady}
-use Rattle.files_in_place.specs.declared.faults.RecoveryFault.TheVariants as recovery
 use Rattle.folders.specs.declared.finish_fault.FinishFault.{FinishFault}
 use Rattle.folders.specs.declared.finish_fault.FinishFault.TheVariants as finish
 use Rattle.folders.specs.declared.named.NamedFile.{NamedFile}
@@ -14,11 +13,11 @@ use Rattle.folders.specs.Placed.{names_of, AreUnreserved, IsListedAfter, IsOldOr
 use Rattle.program_frame.specs.declared.ending.Failure.{Failure}
 use Rattle.program_frame.specs.declared.ending.Failure.TheVariants.{BadDate, Work, Folder as OfFolder}
 use Rattle.program_frame.specs.declared.folder.FolderFault.{FolderFault}
-use Rattle.program_frame.specs.declared.folder.FolderFault.TheVariants.{BadList, DayOpen, InUse, Unfinished, Unopened, Unrecovered, Unreplaced, Unwritten}
+use Rattle.program_frame.specs.declared.folder.FolderFault.TheVariants.{BadList, DayOpen, InUse, UnknownDay, Unfinished, Unopened, Unrecovered, Unreplaced, Unwritten}
 use Rattle.program_frame.specs.declared.folder.PlaceFault.{PlaceFault}
 use Rattle.program_frame.specs.Endings.{place_failure}
-use Rattle.program_frame.specs.Jobs.{AreFilesOf, IsFailureOf, IsLoadFailure, IsPlaceFailure, IsUnbegun}
-use Rattle.program_frame.specs.PlaceFaults.{unplaced_files, IsOfRecovery}
+use Rattle.program_frame.specs.Jobs.{AreFilesOf, IsFailureOf, IsFolderFault, IsLoadFailure, IsPlaceFailure, IsStopped, IsUnbegun}
+use Rattle.program_frame.specs.PlaceFaults.{unplaced_files, IsOfBeginning}
 use Rattle.program_frame.specs.Placing.{EndsInPlace, IsRecovered, RecoversAsOneOf, TellsRecovery}
 use Rattle.program_frame.proofs.InPlaceLaws.{unfinished_then, unwritten_cause}
 use Rattle.program_frame.proofs.PlacingLaws.{put_in_part, put_whole, recovered_in_part, recovered_ok, recovered_old, seen_at, seen_too, such_of}
@@ -75,12 +74,12 @@ module _ {D R F : Type 0} (m : DiskMeaning D) (writes : List NamedFile → R →
             (λ e. put_in_part m (AreFilesOf writes) [] written refl (such_of writes report _ _ listed) (Some start) start now refl (since promised) (ready promised e) promised) told;
       }
 
--- it was not begun
-pub ends_unbegun : {D R F : Type 0} (m : DiskMeaning D) (writes : List NamedFile → R → Type 0) (none : F) (start now : D) (ended : Result R (Failure F)) → IsErr ended → IfErr ended (IsUnbegun none)
+-- it was stopped before its end, or not begun
+pub ends_stopped : {D R F : Type 0} (m : DiskMeaning D) (writes : List NamedFile → R → Type 0) (fails : F → Type 0) (none : F) (start now : D) (ended : Result R (Failure F)) → IsErrAnd ended (IsStopped fails none)
     → (m.keeps_promises → LeavesOnly m start now (RecoversAsOneOf (m.may_leave start))) → EndsInPlace m writes (RecoversAsOneOf (m.may_leave start)) (recovered (m.seen start)) start now ended
-ends_unbegun m writes none start now (Ok report) refused unbegun old = absurd cc
-ends_unbegun m writes none start now (Err BadDate) refused unbegun old = absurd unbegun
-ends_unbegun m writes none start now (Err (Work fault)) refused unbegun old = record {
+ends_stopped m writes fails none start now (Ok report) stopped old = absurd stopped
+ends_stopped m writes fails none start now (Err BadDate) stopped old = absurd stopped
+ends_stopped m writes fails none start now (Err (Work fault)) stopped old = record {
   placed = λ promised. tt;
   synced = λ promised. tt;
   old_files = λ promised other. old promised;
@@ -88,35 +87,66 @@ ends_unbegun m writes none start now (Err (Work fault)) refused unbegun old = re
   unwritten = λ told. absurd cc;
   unfinished = λ promised told. absurd cc;
 }
-ends_unbegun m writes none start now (Err (OfFolder why)) refused unbegun old = record {
+ends_stopped m writes fails none start now (Err (OfFolder why)) stopped old = record {
   placed = λ promised. tt;
   synced = λ promised. tt;
   old_files = λ promised other. old promised;
   seen = λ promised other. seen_too m promised start now _ (old promised);
-  unwritten = λ told. let same : why ≡ Unwritten = cc in absurd (subst IsOfRecovery same unbegun);
-  unfinished = λ promised told. let same : why ≡ Unfinished = cc in absurd (subst IsOfRecovery same unbegun);
+  unwritten = λ told. let same : why ≡ Unwritten = cc in absurd (subst (IsFolderFault ⊥) same stopped);
+  unfinished = λ promised told. let same : why ≡ Unfinished = cc in absurd (subst (IsFolderFault ⊥) same stopped);
 }
 
--- why it was not begun is why its files are not in place
-pub unbegun_fault : {R F : Type 0} (none : F) (fails : F → Type 0) (whole : Type 0) (ended : Result R (Failure F)) → IfErr ended (IsUnbegun none) → IfErr ended (IsPlaceFailure fails none whole)
-unbegun_fault none fails whole (Ok report) unbegun = tt
-unbegun_fault none fails whole (Err BadDate) unbegun = unbegun
-unbegun_fault none fails whole (Err (Work fault)) unbegun = inl unbegun
-unbegun_fault none fails whole (Err (OfFolder InUse)) unbegun = unbegun
-unbegun_fault none fails whole (Err (OfFolder Unopened)) unbegun = unbegun
-unbegun_fault none fails whole (Err (OfFolder Unrecovered)) unbegun = tt
-unbegun_fault none fails whole (Err (OfFolder BadList)) unbegun = tt
-unbegun_fault none fails whole (Err (OfFolder (Unreplaced name))) unbegun = tt
-unbegun_fault none fails whole (Err (OfFolder DayOpen)) unbegun = absurd unbegun
-unbegun_fault none fails whole (Err (OfFolder Unwritten)) unbegun = absurd unbegun
-unbegun_fault none fails whole (Err (OfFolder Unfinished)) unbegun = absurd unbegun
+pub stopped_place : {F : Type 0} (none : F) (fails : F → Type 0) (whole : Type 0) (why : Failure F) → IsStopped fails none why → IsPlaceFailure fails none whole why
+stopped_place none fails whole BadDate stopped = stopped
+stopped_place none fails whole (Work fault) stopped = stopped
+stopped_place none fails whole (OfFolder InUse) stopped = stopped
+stopped_place none fails whole (OfFolder Unopened) stopped = stopped
+stopped_place none fails whole (OfFolder Unrecovered) stopped = tt
+stopped_place none fails whole (OfFolder BadList) stopped = tt
+stopped_place none fails whole (OfFolder (Unreplaced name)) stopped = tt
+stopped_place none fails whole (OfFolder DayOpen) stopped = tt
+stopped_place none fails whole (OfFolder (UnknownDay log said)) stopped = tt
+stopped_place none fails whole (OfFolder Unwritten) stopped = absurd stopped
+stopped_place none fails whole (OfFolder Unfinished) stopped = absurd stopped
+
+-- why it was stopped is why its files are not in place
+pub stopped_fault : {R F : Type 0} (none : F) (fails : F → Type 0) (whole : Type 0) (ended : Result R (Failure F)) → IsErrAnd ended (IsStopped fails none) → IfErr ended (IsPlaceFailure fails none whole)
+stopped_fault none fails whole (Ok report) stopped = tt
+stopped_fault none fails whole (Err why) stopped = stopped_place none fails whole why stopped
+
+-- why it was not begun is why it was stopped
+unbegun_why : {F : Type 0} (none : F) (fails : F → Type 0) (why : Failure F) → IsUnbegun none why → IsStopped fails none why
+unbegun_why none fails BadDate unbegun = unbegun
+unbegun_why none fails (Work fault) unbegun = inl unbegun
+unbegun_why none fails (OfFolder InUse) unbegun = unbegun
+unbegun_why none fails (OfFolder Unopened) unbegun = unbegun
+unbegun_why none fails (OfFolder Unrecovered) unbegun = tt
+unbegun_why none fails (OfFolder BadList) unbegun = tt
+unbegun_why none fails (OfFolder (Unreplaced name)) unbegun = tt
+unbegun_why none fails (OfFolder DayOpen) unbegun = tt
+unbegun_why none fails (OfFolder (UnknownDay log said)) unbegun = tt
+unbegun_why none fails (OfFolder Unwritten) unbegun = unbegun
+unbegun_why none fails (OfFolder Unfinished) unbegun = unbegun
+
+pub unbegun_stopped : {R F : Type 0} (none : F) (fails : F → Type 0) (ended : Result R (Failure F)) → IsErrAnd ended (IsUnbegun none) → IsErrAnd ended (IsStopped fails none)
+unbegun_stopped none fails (Ok report) unbegun = unbegun
+unbegun_stopped none fails (Err why) unbegun = unbegun_why none fails why unbegun
 
 -- no load has failed then
-pub unbegun_load : {R F : Type 0} (none : F) (loads : F → Type 0) (same : Type 0) (ended : Result R (Failure F)) → IfErr ended (IsUnbegun none) → same → IfErr ended (IsLoadFailure loads none same)
+pub unbegun_load : {R F : Type 0} (none : F) (loads : F → Type 0) (same : Type 0) (ended : Result R (Failure F)) → IsErrAnd ended (IsUnbegun none) → same → IfErr ended (IsLoadFailure loads none same)
 unbegun_load none loads same (Ok report) unbegun kept = tt
 unbegun_load none loads same (Err BadDate) unbegun kept = kept
 unbegun_load none loads same (Err (Work fault)) unbegun kept = inl unbegun
 unbegun_load none loads same (Err (OfFolder why)) unbegun kept = kept
+
+pub stopped_err : {R F : Type 0} (are : F → Type 0) (ended : Result R F) → IsErrAnd ended are → IsErr ended
+stopped_err are (Ok report) stopped = absurd stopped
+stopped_err are (Err why) stopped = refl
+
+-- what has no end has none of this
+pub stopped_no_end : {R F : Type 0} (are : F → Type 0) (what : Type 0) (ended : Result R F) → IsErrAnd ended are → OnOk ended what
+stopped_no_end are what (Ok report) stopped = absurd stopped
+stopped_no_end are what (Err why) stopped = tt
 
 -- what the failure of work says of the loads, its end says
 pub ended_load : {R Q F : Type 0} (none : F) (loads : F → Type 0) (same : Type 0) (ended : Result R F) (now : Result Q (Failure F)) → IfErr now (IsFailureOf ended none) → IfErr ended loads → OnOk ended same
@@ -145,7 +175,7 @@ module _ {D R F : Type 0} (m : DiskMeaning D) (writes : List NamedFile → R →
       }
 
   -- where the folder was recovered nothing else is told of that
-  pub tells_since : (now : D) (ended : Result R (Failure F)) → ((said : FolderFault) → IsOfRecovery said → ¬ IsErrOf ended (OfFolder said)) → TellsRecovery m start now ended
+  pub tells_since : (now : D) (ended : Result R (Failure F)) → ((said : FolderFault) → IsOfBeginning said → ¬ IsErrOf ended (OfFolder said)) → TellsRecovery m start now ended
   tells_since now ended never = record {
     unrecovered = λ told. absurd (never Unrecovered tt told);
     unreplaced = λ name told. absurd (never (Unreplaced name) tt told);

@@ -15,8 +15,8 @@ use Rattle.program_frame.specs.declared.folder.PlaceFault.{PlaceFault}
 use Rattle.program_frame.specs.declared.folder.PlaceFault.TheVariants.{NoMemory, Folder}
 use Rattle.program_frame.specs.Endings.{place_failure}
 use Rattle.program_frame.specs.Jobs.{given_up, IsLoadFailure, IsPlaceFailure}
-use Rattle.program_frame.specs.PlaceFaults.{unplaced_files, unrecovered_folder, IsOfRecovery}
-use Rattle.program_frame.proofs.PlacingLaws.{never_unrecovered, recovery_said, unfinished_only, unwritten_only}
+use Rattle.program_frame.specs.PlaceFaults.{unplaced_files, unrecovered_folder, IsOfBeginning, IsOfRecovery}
+use Rattle.program_frame.proofs.PlacingLaws.{never_unbegun, recovery_said, unfinished_only, unwritten_only}
 
 module _ {F : Type 0} (none : F) where
   -- ---- what a failure says of its folder
@@ -43,9 +43,9 @@ module _ {F : Type 0} (none : F) where
       → IsPlaceFailure fails none ended failure
   unplaced fails ended why fault failure is was whole = subst (IsPlaceFailure fails none ended) (sym (is ∙ ap (place_failure none) was)) (place_fault fails ended why whole)
 
-  -- it is not that the folder was not recovered
-  pub recovered_before : {T : Type 0} (why : FinishFault) (said : FolderFault) (fault : PlaceFault) (failure : Failure F) → IsOfRecovery said → failure ≡ place_failure none fault → fault ≡ unplaced_files why → IsErrOf {T = T} (Err failure) (OfFolder said) → ⊥
-  recovered_before {T} why said fault failure un is was e = never_unrecovered why said un (sym was ∙ told_of {T = T} said fault failure is e)
+  -- it is not that the work was not begun
+  pub begun_before : {T : Type 0} (why : FinishFault) (said : FolderFault) (fault : PlaceFault) (failure : Failure F) → IsOfBeginning said → failure ≡ place_failure none fault → fault ≡ unplaced_files why → IsErrOf {T = T} (Err failure) (OfFolder said) → ⊥
+  begun_before {T} why said fault failure un is was e = never_unbegun why said un (sym was ∙ told_of {T = T} said fault failure is e)
 
   -- it is said only where the disk has failed
   pub unwritten_cause : {T : Type 0} (before end now : ℕ) (why : FinishFault) (said : PlaceFault) (failure : Failure F) → failure ≡ place_failure none said → said ≡ unplaced_files why → before ≤ end → (why ≡ finish.Unwritten → end < now)

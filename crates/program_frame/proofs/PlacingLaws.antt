@@ -20,9 +20,9 @@ use Rattle.program_frame.specs.declared.folder.FolderFault.TheVariants.{Unrecove
 use Rattle.files_in_place.specs.declared.faults.RecoveryFault.{RecoveryFault}
 use Rattle.files_in_place.specs.declared.faults.RecoveryFault.TheVariants as recovery
 use Rattle.program_frame.specs.declared.folder.PlaceFault.TheVariants as place
-use Rattle.program_frame.specs.PlaceFaults.{unplaced_files, unrecovered_folder, IsOfRecovery}
+use Rattle.program_frame.specs.PlaceFaults.{unplaced_files, unrecovered_folder, IsOfBeginning, IsOfRecovery}
 use Rattle.program_frame.specs.Jobs.{AreFilesOf}
-use Rattle.program_frame.specs.Placing.{HasFiles, HasPut, HasPutInto, MayPut, RecoversAsOneOf, WasPutting}
+use Rattle.program_frame.specs.Placing.{HasFiles, HasPut, MayPut, RecoversAsOneOf, WasPutting}
 
 some_is : (a b : List ℕ) → Some a ≡ Some b → a ≡ b
 some_is a b same = ap (λ (o : Option (List ℕ)). elim o [ Some m ↦ m | None ↦ a ]) same
@@ -97,10 +97,10 @@ unfinished_only finish.NoMemory is = absurd cc
 unfinished_only finish.Unwritten is = absurd cc
 unfinished_only finish.Unfinished is = refl
 
-pub never_unrecovered : (why : FinishFault) (said : FolderFault) → IsOfRecovery said → unplaced_files why ≢ place.Folder said
-never_unrecovered finish.NoMemory said un is = absurd cc
-never_unrecovered finish.Unwritten said un is = let same : said ≡ Unwritten = cc in absurd (subst IsOfRecovery same un)
-never_unrecovered finish.Unfinished said un is = let same : said ≡ Unfinished = cc in absurd (subst IsOfRecovery same un)
+pub never_unbegun : (why : FinishFault) (said : FolderFault) → IsOfBeginning said → unplaced_files why ≢ place.Folder said
+never_unbegun finish.NoMemory said un is = absurd cc
+never_unbegun finish.Unwritten said un is = let same : said ≡ Unwritten = cc in absurd (subst IsOfBeginning same un)
+never_unbegun finish.Unfinished said un is = let same : said ≡ Unfinished = cc in absurd (subst IsOfBeginning same un)
 
 -- ---- what is said of a folder that was not recovered
 
@@ -275,9 +275,3 @@ pub recovering_old : {D : Type 0} (m : DiskMeaning D) (start now : D) → Leaves
     → LeavesOnly m start now (RecoversAsOneOf (m.may_leave start))
 recovering_old m start now leaves =
     leaves_as m start now (AfterStep StillRecovers (m.may_leave start)) (RecoversAsOneOf (m.may_leave start)) leaves (λ left from. (from.0, from.1, from.2.recovers))
-
--- files that were put into a folder that was opened
-pub put_into : {D R F : Type 0} (m : DiskMeaning D) (is_opened : D → Type 0) (are_such : R → List NamedFile → Type 0) (start now : D) (ended : Result R F) → is_opened start
-    → (m.keeps_promises → IfOk ended (λ report. HasPut m (are_such report) (RecoversAsOneOf (m.may_leave start)) (recovered (m.seen start)) start now)) → IfOk ended (λ report. HasPutInto m is_opened (are_such report))
-put_into m is_opened are_such start now (Ok report) opened put = record { start = start; end = now; opened = opened; put = put }
-put_into m is_opened are_such start now (Err failure) opened put = tt

@@ -8,6 +8,7 @@ use Rattle.program_frame.specs.declared.ending.Ending.{Ending}
 use Rattle.program_frame.specs.declared.ending.Ending.TheVariants as ended
 use Rattle.program_frame.specs.declared.ending.Failure.{Failure}
 use Rattle.program_frame.specs.declared.ending.Failure.TheVariants as failure
+use Rattle.program_frame.specs.declared.folder.FolderFault.TheVariants as folder
 use Rattle.program_frame.specs.declared.folder.PlaceFault.{PlaceFault}
 use Rattle.program_frame.specs.declared.folder.PlaceFault.TheVariants as place
 use Rattle.program_frame.specs.Reasons.{folder_reason}
@@ -15,15 +16,16 @@ use Rattle.program_frame.specs.Telling.{mistake_line, mistake_status, no_text_li
 
 -- ---- of a program that puts new files in place, where this is told of its work
 
--- the exit status of a program that puts new files in place, if it failed: 1 for the date, 4 for the folder
+-- the exit status: 1 for the date, 2 for a log that can't be read, 4 for the folder
 abbrev pub failure_status : {F : Type 0} → (F → ℕ) → Failure F → ℕ
 failure_status status failure.BadDate = 1
 failure_status status (failure.Work fault) = status fault
+failure_status status (failure.Folder (folder.UnknownDay log why)) = 2
 failure_status status (failure.Folder fault) = 4
 
 -- why such a program failed, in words
 abbrev pub failure_words : {F : Type 0} → (F → List ℕ) → Failure F → List ℕ
-failure_words words failure.BadDate = codes "bad date"
+failure_words words failure.BadDate = codes "bad date: --today wants a day like 19870315, of the years 1900 to 2155"
 failure_words words (failure.Work fault) = words fault
 failure_words words (failure.Folder fault) = folder_reason fault
 

@@ -17,15 +17,16 @@ ComesToItsEnd {R} writes = (files : List NamedFile) × (report : R) × writes fi
 abbrev pub AreFilesOf : {R : Type 0} → (List NamedFile → R → Type 0) → List NamedFile → Type 0
 AreFilesOf {R} writes files = (report : R) × writes files report
 
--- why a folder that was locked and opened has not got the files: it was not recovered, or the work came to its end and its files
--- were not put in place
+-- why a folder that was locked and opened has not got the files: it was not recovered, a day is open in it or where the work reads, or
+-- that is not known; or the work came to its end and its files were not put in place
 abbrev pub IsFolderFault : Type 0 → FolderFault → Type 0
 IsFolderFault ended folder.InUse = ⊥
 IsFolderFault ended folder.Unopened = ⊥
 IsFolderFault ended folder.Unrecovered = Unit {0}
 IsFolderFault ended folder.BadList = Unit {0}
 IsFolderFault ended (folder.Unreplaced name) = Unit {0}
-IsFolderFault ended folder.DayOpen = ⊥
+IsFolderFault ended folder.DayOpen = Unit {0}
+IsFolderFault ended (folder.UnknownDay log why) = Unit {0}
 IsFolderFault ended folder.Unwritten = ended
 IsFolderFault ended folder.Unfinished = ended
 
@@ -53,11 +54,20 @@ IsRunFailure fails no_memory ended (failure.Folder folder.InUse) = Unit {0}
 IsRunFailure fails no_memory ended (failure.Folder folder.Unopened) = Unit {0}
 IsRunFailure fails no_memory ended why = IsPlaceFailure fails no_memory ended why
 
--- why work was not begun: memory was refused, or the folder was not recovered
+-- why a folder was not recovered: memory was refused, or the disk failed, or it has another's list
+abbrev pub IsUnrecovered : {F : Type 0} → F → Failure F → Type 0
+IsUnrecovered no_memory failure.BadDate = ⊥
+IsUnrecovered no_memory (failure.Work fault) = fault ≡ no_memory
+IsUnrecovered no_memory (failure.Folder why) = IsOfRecovery why
+
+-- why work was not begun in a folder: a day is open in it, or it was not recovered
 abbrev pub IsUnbegun : {F : Type 0} → F → Failure F → Type 0
-IsUnbegun no_memory failure.BadDate = ⊥
-IsUnbegun no_memory (failure.Work fault) = fault ≡ no_memory
-IsUnbegun no_memory (failure.Folder why) = IsOfRecovery why
+IsUnbegun no_memory (failure.Folder folder.DayOpen) = Unit {0}
+IsUnbegun no_memory why = IsUnrecovered no_memory why
+
+-- why work did not come to its end, or was not begun: it failed so, memory was refused, or the folder was not such
+abbrev pub IsStopped : {F : Type 0} → (F → Type 0) → F → Failure F → Type 0
+IsStopped fails no_memory why = IsPlaceFailure fails no_memory ⊥ why
 
 -- why the files of work are not in place that ended so: it failed for this, or memory was refused; or it came to its end
 abbrev pub IsFailureOf : {R F : Type 0} → Result R F → F → Failure F → Type 0

@@ -8,3 +8,5 @@ pub mod Telling
 pub mod Endings
 pub mod Jobs
 pub mod Laws
+pub mod BesideDay
+pub mod InputDays

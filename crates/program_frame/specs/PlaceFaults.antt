@@ -32,8 +32,15 @@ IsOfRecovery folder.Unrecovered = Unit {0}
 IsOfRecovery folder.BadList = Unit {0}
 IsOfRecovery (folder.Unreplaced name) = Unit {0}
 IsOfRecovery folder.DayOpen = ⊥
+IsOfRecovery (folder.UnknownDay log why) = ⊥
 IsOfRecovery folder.Unwritten = ⊥
 IsOfRecovery folder.Unfinished = ⊥
+
+-- it says that work was not begun in a folder that was opened: it was not recovered, or a day is open, or that is not known
+abbrev pub IsOfBeginning : FolderFault → Type 0
+IsOfBeginning folder.DayOpen = Unit {0}
+IsOfBeginning (folder.UnknownDay log why) = Unit {0}
+IsOfBeginning why = IsOfRecovery why
 
 -- why new files were not put in place
 abbrev pub unplaced_files : FinishFault → PlaceFault

@@ -57,13 +57,16 @@ impl<F: Reason> Reason for Failure<F> {
         match self {
             Failure::BadDate => 1,
             Failure::Work(fault) => fault.exit_status(),
+            Failure::Folder(FolderFault::UnknownDay(_, _)) => 2,
             Failure::Folder(_) => 4,
         }
     }
 
     fn print<W: Write>(&self, out: &mut W) -> io::Result<()> {
         match self {
-            Failure::BadDate => out.write_all(b"bad date"),
+            Failure::BadDate => out.write_all(
+                b"bad date: --today wants a day like 19870315, of the years 1900 to 2155",
+            ),
             Failure::Work(fault) => fault.print(out),
             Failure::Folder(fault) => print_folder(out, fault),
         }

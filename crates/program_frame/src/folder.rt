@@ -4,8 +4,10 @@ ghost use Rattle.std.specs.Prelude.{◌≡◌, OnOk};
 ghost use Rattle.std.specs.Io.KnownBytes.{Appends};
 ghost use Rattle.program_frame.specs.Reasons.{folder_reason, unreplaced};
 
+use crate::reason::print_unread;
 use byte_io::Bytes;
 use files_in_place::LockFault;
+use office_run::FileFault;
 use std::alloc::AllocError;
 use std::io;
 use std::io::Write;
@@ -15,7 +17,7 @@ use std::io::Write;
 pub enum FolderFault {
     /// Another run writes into it.
     InUse,
-    /// It can't be opened.
+    /// It isn't there, or can't be opened.
     Unopened,
     /// What an earlier run left in it was not brought to its end, or can't be read.
     Unrecovered,
@@ -25,6 +27,8 @@ pub enum FolderFault {
     Unreplaced(Bytes),
     /// A live day is open in it, whose answers are in none of its tables yet.
     DayOpen,
+    /// Whether a day is open in a folder from which the program reads isn't known, since the log of this path can't be read.
+    UnknownDay(Bytes, FileFault),
     /// The new files were not written whole, and none of them is in place.
     Unwritten,
     /// Not all new files are in place, and the next start goes on.
@@ -37,7 +41,9 @@ pub fn print_folder<W: Write>(out: &mut W, fault: &FolderFault) -> io::Result<()
 {
     match fault {
         FolderFault::InUse => out.write_all(b"another run writes into the folder"),
-        FolderFault::Unopened => out.write_all(b"cannot open the folder"),
+        FolderFault::Unopened => {
+            out.write_all(b"cannot open the folder of --out: is it there, and may it be opened?")
+        }
         FolderFault::Unrecovered => out.write_all(b"cannot recover the folder"),
         FolderFault::BadList => {
             out.write_all(b"cannot recover the folder: ~niqarthu.list is no list of new files")
@@ -46,6 +52,7 @@ pub fn print_folder<W: Write>(out: &mut W, fault: &FolderFault) -> io::Result<()
         FolderFault::DayOpen => {
             out.write_all(b"a day is open in the folder: station_prompt goes on with it")
         }
+        FolderFault::UnknownDay(log, why) => print_unread(out, log, *why),
         FolderFault::Unwritten => out.write_all(b"cannot write the new files"),
         FolderFault::Unfinished => {
             out.write_all(b"not all new files are in place: the next start goes on")

@@ -1,19 +1,24 @@
 //! The work of a program into the folder of a disk, where its new files take their places all together.
 
-ghost use Rattle.std.specs.Prelude.{◌≡◌, ◌⊎◌, ◌+◌, ◌≤◌, [], Some, IfOk, IfErr, IfSome, IsErr, IsErrOf, IsOk, OnOk};
-ghost use Rattle.files_in_place.specs.Disk.{LeavesOnly, IsSyncedDisk};
+ghost use Rattle.std.specs.Prelude.{◌≡◌, ◌⊎◌, ◌+◌, [], false, true, Some, IfOk, IfErr, IfSome, IsErrAnd, IsErrOf, IsOk, OnOk};
+ghost use Rattle.files_in_place.specs.Disk.{IsSyncedDisk};
 ghost use Rattle.files_in_place.specs.Folder.{recovered};
 ghost use Rattle.files_in_place.specs.Recovery.{HasOldFiles, IsClean, OthersAreWhole};
+ghost use Rattle.open_day.specs.OpenDay.{has_open_day, mark_name};
+ghost use Rattle.program_frame.specs.BesideDay.{IsLeftForDay};
+ghost use Rattle.program_frame.specs.InputDays.{IsMarkAt};
 ghost use Rattle.program_frame.specs.Jobs.{given_up, ComesToItsEnd, IsFailureOf, IsLoadFailure, IsPlaceFailure, IsUnbegun};
-ghost use Rattle.program_frame.specs.PlaceFaults.{IsOfRecovery};
-ghost use Rattle.program_frame.specs.Placing.{EndsInPlace, IsRecovered, RecoversAsOneOf, TellsRecovery};
+ghost use Rattle.program_frame.specs.PlaceFaults.{IsOfBeginning};
+ghost use Rattle.program_frame.specs.Placing.{EndsInPlace, RecoversAsOneOf, TellsRecovery};
 ghost use Rattle.folders.specs.Placed.{IsListedAfter};
 
+use crate::begin::begin_work;
+use crate::beside::Beside;
 use crate::ending::{Failure, Reason};
 use crate::folder::FolderFault;
 use crate::job::{Job, Work};
-use crate::placing::{unplaced, unrecovered};
-use files_in_place::{Disk, SetFault, recover};
+use crate::placing::unplaced;
+use files_in_place::{Disk, SetFault};
 use folders::{DiskFolder, Origin, Source};
 use std::alloc::Global;
 use std::io::Write;
@@ -46,31 +51,6 @@ fn give_up<J: Job, D: Disk + Drop, O: Origin<D>>(
     }
 }
 
-/// Brings to its end what an earlier run left in the folder of a disk, before anything is read. An `Err` says how the work ends
-/// that was not begun.
-pub fn begin_in_place<R: Drop, F: Reason, D: Disk + Drop>(
-    alloc: Global,
-    disk: D,
-) -> Result<D, InPlace<R, F, D>>
-    // Of the files that recovery leaves alone, all bytes are on the disk.
-    requires on_disk { D.meaning.keeps_promises → OthersAreWhole (D.meaning.seen disk) (D.meaning.is_whole disk) }
-    ensures recovered { IfOk result (λ now. D.meaning.keeps_promises → IsRecovered D.meaning disk now) }
-    ensures later { IfOk result (λ now. D.meaning.faults disk ≤ D.meaning.faults now) }
-    ensures refused { IfErr result (λ refused. IsErr refused.ended) }
-    ensures unbegun { IfErr result (λ refused. IfErr refused.ended (IsUnbegun F.no_memory)) }
-    ensures old_files { IfErr result (λ refused. D.meaning.keeps_promises → LeavesOnly D.meaning disk refused.disk (RecoversAsOneOf (D.meaning.may_leave disk))) }
-    ensures tells { IfErr result (λ refused. TellsRecovery D.meaning disk refused.disk refused.ended) }
-{
-    let mut disk = disk;
-    match recover(alloc, &mut disk) {
-        Ok(()) => Ok(disk),
-        Err(fault) => Err(InPlace {
-            ended: Err(Failure::from(unrecovered(fault))),
-            disk,
-        }),
-    }
-}
-
 /// Puts the files of work in place that it has written into a folder, where it came to its end, and else removes them: which work it
 /// was, and how it ended over the files of a source.
 pub fn end_in_place<J: Job, S: Source, D: Disk + Drop, O: Origin<D>>(
@@ -86,7 +66,7 @@ pub fn end_in_place<J: Job, S: Source, D: Disk + Drop, O: Origin<D>>(
         EndsInPlace D.meaning (J.writes job.now (S.files source.now)) (HasOldFiles (D.meaning.seen disk)) (D.meaning.seen disk) disk result.disk result.ended) }
     ensures fault { IfErr result.ended
         (IsPlaceFailure (J.fails job.now (S.files source.now)) J.Fault.no_memory (ComesToItsEnd (J.writes job.now (S.files source.now)))) }
-    ensures recovered { (said : FolderFault) → IsOfRecovery said → ¬ IsErrOf result.ended (Failure.Folder said) }
+    ensures begun { (said : FolderFault) → IsOfBeginning said → ¬ IsErrOf result.ended (Failure.Folder said) }
     ensures failure { IfErr result.ended (IsFailureOf ended J.Fault.no_memory) }
     ensures came { OnOk result.ended (IsOk ended) }
 {
@@ -127,7 +107,7 @@ fn run_recovered<J: Work, S: Source, D: Disk + Drop, O: Origin<D>, E: Write>(
     ensures ends { EndsInPlace D.meaning (J.writes job.now (S.files source.old)) (HasOldFiles (D.meaning.seen disk)) (D.meaning.seen disk) disk result.disk result.ended }
     ensures fault { IfErr result.ended
         (IsPlaceFailure (J.fails job.now (S.files source.old)) J.Fault.no_memory (ComesToItsEnd (J.writes job.now (S.files source.old)))) }
-    ensures recovered { (said : FolderFault) → IsOfRecovery said → ¬ IsErrOf result.ended (Failure.Folder said) }
+    ensures begun { (said : FolderFault) → IsOfBeginning said → ¬ IsErrOf result.ended (Failure.Folder said) }
     ensures kept { S.files source.new ≡ S.files source.old }
     ensures loads { OnOk result.ended (S.failures source.new ≡ S.failures source.old) }
     ensures failure { IfErr result.ended (IsLoadFailure (J.loads job.now (S.files source.old) (S.failures source.old) (S.failures source.new))
@@ -140,11 +120,13 @@ fn run_recovered<J: Work, S: Source, D: Disk + Drop, O: Origin<D>, E: Write>(
 
 /// Does the work of a program over the folder of a disk. What an earlier run left in it is brought to its end before anything is
 /// read; the new files are put in place, all of them or none, once they are written. What the work says meanwhile is printed on
-/// `err`.
-pub fn run_in_place<J: Work, S: Source, D: Disk + Drop, E: Write>(
+/// `err`. Where a live day is open in the folder, or in one from which the work reads, or by the log that the mark of one
+/// of these names, it is refused before that, and nothing is written.
+pub fn run_in_place<J: Work, S: Source, B: Beside, D: Disk + Drop, E: Write>(
     alloc: Global,
     job: &J,
     source: &mut S,
+    system: &B,
     disk: D,
     err: &mut E,
 ) -> InPlace<J::Report, J::Fault, D>
@@ -159,8 +141,15 @@ pub fn run_in_place<J: Work, S: Source, D: Disk + Drop, E: Write>(
     ensures loads { OnOk result.ended (S.failures source.new ≡ S.failures source.old) }
     ensures failure { IfErr result.ended (IsLoadFailure (J.loads job.now (S.files source.old) (S.failures source.old) (S.failures source.new))
         J.Fault.no_memory (S.failures source.new ≡ S.failures source.old)) }
+    // That a day is open is said only where it is, and then nothing was changed but by recovery; and where it is, the work is refused.
+    ensures open_day { IsErrOf result.ended (Failure.Folder FolderFault.DayOpen)
+        → IsLeftForDay D.meaning (B.answers system.now) (J.finds_day job.now (B.answers system.now) (S.files source.old) true) disk result.disk }
+    ensures inputs { OnOk result.ended (J.finds_day job.now (B.answers system.now) (S.files source.old) false) }
+    ensures unmarked { D.meaning.keeps_promises → OnOk result.ended (IsMarkAt (B.answers system.now) (recovered (D.meaning.seen disk) mark_name) false) }
+    ensures refused { D.meaning.keeps_promises → has_open_day (recovered (D.meaning.seen disk)) ≡ true
+        → IsErrAnd result.ended (IsUnbegun J.Fault.no_memory) }
 {
-    match begin_in_place(alloc, disk) {
+    match begin_work(alloc, job, source, system, disk) {
         // Which disk the new files begin on is picked for contracts, at `Brand`.
         Ok(disk) => run_recovered::<J, S, D, Brand, E>(alloc, job, source, disk, err),
         Err(refused) => refused,

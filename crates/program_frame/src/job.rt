@@ -1,10 +1,14 @@
 //! What a program does between the recovery of the folder for its files and their placing.
 
-ghost use Rattle.std.specs.Prelude.{◌≡◌, ℕ, Bool, List, Option, IfOk, IfErr, OnOk};
+ghost use Rattle.std.specs.Prelude.{◌≡◌, ℕ, Bool, true, false, List, Option, IfOk, IfErr, IsErrOf, OnOk};
 ghost use Rattle.folders.specs.Placed.{IsListedAfter};
 ghost use Rattle.folders.specs.declared.named.NamedFile.{NamedFile};
+ghost use Rattle.program_frame.specs.InputDays.{FileAnswers, IsWorkRefusal};
+ghost use Rattle.program_frame.specs.Jobs.{IsLoadFailure};
+ghost use Rattle.program_frame.specs.declared.folder.FolderFault.{FolderFault};
 
-use crate::ending::Reason;
+use crate::beside::Beside;
+use crate::ending::{Failure, Reason};
 use folders::{Folder, Source};
 use std::alloc::Global;
 use std::io::Write;
@@ -28,6 +32,24 @@ pub trait Job {
 
     // a failure says that the folder has not taken a file
     ghost is_unwritten: { Self.Fault → Bool };
+
+    // Whether a live day is open in a folder from which it reads, over these files, where a system has answered so.
+    ghost finds_day: { Self → FileAnswers → Option (List NamedFile) → Bool → Type 0 };
+
+    /// Refuses the work where a live day is open in a folder from which it reads, or where that isn't known.
+    fn refuse_open_day<S: Source, B: Beside>(
+        &self,
+        alloc: Global,
+        source: &mut S,
+        system: &B,
+    ) -> Result<(), Failure<Self::Fault>>
+        ensures closed { OnOk result (Self.finds_day self.now (B.answers system.now) (S.files source.old) false) }
+        ensures open { IsErrOf result (Failure.Folder FolderFault.DayOpen) → Self.finds_day self.now (B.answers system.now) (S.files source.old) true }
+        ensures refused { IfErr result (IsWorkRefusal (B.answers system.now) (Self.fails self.now (S.files source.old)) Self.Fault.no_memory) }
+        ensures kept { S.files source.new ≡ S.files source.old }
+        ensures loads { OnOk result (S.failures source.new ≡ S.failures source.old) }
+        ensures failure { IfErr result (IsLoadFailure (Self.loads self.now (S.files source.old) (S.failures source.old) (S.failures source.new))
+            Self.Fault.no_memory (S.failures source.new ≡ S.failures source.old)) };
 
     /// Whether a failure says that the folder has not taken a file.
     fn is_unwritten(fault: &Self::Fault) -> bool

@@ -2,13 +2,14 @@
 
 ghost use Rattle.std.specs.Prelude.{◌≡◌, ◌++◌, OnOk};
 ghost use Rattle.std.specs.Io.KnownBytes.{Appends};
-ghost use Rattle.program_frame.specs.Reasons.{close_reason, fault_reason, fault_status as status_of_fault, file_reason, unread_file, unwritten};
+ghost use Rattle.program_frame.specs.Reasons.{bad_setup_told, close_reason, fault_reason, fault_status as status_of_fault, file_reason, open_place, open_reason, unread_file, unwritten};
 
 use crate::ending::Reason;
 use crate::names::{close_name, open_name, run_name};
 use byte_io::Bytes;
+use catalogue_core::OpenFault;
 use folders::folder_of;
-use office_run::{CloseFault, FileFault, ServeFault};
+use office_run::{BadSetup, CloseFault, FileFault, ServeFault};
 use std::io;
 use std::io::Write;
 
@@ -32,12 +33,23 @@ pub fn print_fault<W: Write>(out: &mut W, fault: &ServeFault) -> io::Result<()>
     ensures text { OnOk result (Appends (W.contents out.old) (W.contents out.new) (fault_reason fault.now)) }
 {
     match fault {
-        ServeFault::Setup(number) => write!(out, "setup line {number} is bad"),
+        ServeFault::Setup(bad) => print_bad_setup(out, bad),
         ServeFault::File(path, fault) => print_unread(out, path, *fault),
-        ServeFault::Refused(fault) => print_both(out, b"open: ", open_name(*fault)),
+        ServeFault::Refused(fault) => print_open(out, *fault),
         ServeFault::Run(fault) => print_both(out, b"run: ", run_name(*fault)),
         ServeFault::Close(fault) => print_close(out, fault),
         ServeFault::NoMemory => out.write_all(b"run: NoMemory"),
+    }
+}
+
+// Prints which line of a setup is bad, and why.
+fn print_bad_setup<W: Write>(out: &mut W, bad: &BadSetup) -> io::Result<()>
+    ensures text { OnOk result (Appends (W.contents out.old) (W.contents out.new) (bad_setup_told bad.now.number bad.now.told)) }
+{
+    let number = bad.number;
+    match &bad.told {
+        Some(told) => out.write_all(told.as_slice()),
+        None => { write!(out, "setup line {number} is bad: table_tool check says why") }
     }
 }
 
@@ -77,7 +89,9 @@ fn print_file_fault<W: Write>(out: &mut W, path: &Bytes, fault: FileFault) -> io
     ensures text { OnOk result (Appends (W.contents out.old) (W.contents out.new) (file_reason path.now fault)) }
 {
     match fault {
-        FileFault::CannotRead => out.write_all(b"cannot read"),
+        FileFault::CannotRead => out.write_all(
+            b"cannot read: is it there, a file, and may it be read?",
+        ),
         FileFault::Unrecovered => print_unrecovered(out, path),
         FileFault::Image(fault) => out.write_all(fault.name().as_bytes()),
         FileFault::Ndx(fault) => out.write_all(fault.name().as_bytes()),
@@ -90,6 +104,54 @@ fn print_unrecovered<W: Write>(out: &mut W, path: &Bytes) -> io::Result<()>
 {
     out.write_all(b"the folder is not recovered: start with --out ")?;
     out.write_all(folder_of(path.as_slice()))?;
+    Ok(())
+}
+
+// Prints where the tables, indexes and stations of a setup don't go together, and what to do.
+fn print_open_place<W: Write>(out: &mut W, fault: OpenFault) -> io::Result<()>
+    ensures text { OnOk result (Appends (W.contents out.old) (W.contents out.new) (open_place fault)) }
+{
+    match fault {
+        OpenFault::NoStation => out.write_all(b": the setup has no STATION line"),
+        OpenFault::TooManyStations => out.write_all(b": a setup has at most 16 STATION lines"),
+        OpenFault::TooManyTables => out.write_all(b": a setup has at most 10 TABLE lines"),
+        OpenFault::DuplicateTable(table) => {
+            write!(
+                out,
+                ": table {table} of the setup has the name of an earlier one"
+            )
+        }
+        OpenFault::TooManyIndexes(table) => {
+            write!(out, ": table {table} of the setup has more than 7 indexes")
+        }
+        OpenFault::DuplicateIndex(table, index) => {
+            write!(
+                out,
+                ": index {index} of table {table} of the setup has the name of an earlier one"
+            )
+        }
+        OpenFault::BadExpression(table, index, _) => {
+            write!(
+                out,
+                ": index {index} of table {table} of the setup has no key expression for it: table_tool check says why"
+            )
+        }
+        OpenFault::IndexStale(table, index) => {
+            write!(
+                out,
+                ": index {index} of table {table} of the setup is stale: --reindex makes it anew, table_tool check says more"
+            )
+        }
+        OpenFault::NoMemory => out.write_all(b": out of memory"),
+    }
+}
+
+// Prints why a catalogue was not opened: the fault's name, and where.
+fn print_open<W: Write>(out: &mut W, fault: OpenFault) -> io::Result<()>
+    ensures text { OnOk result (Appends (W.contents out.old) (W.contents out.new) (open_reason fault)) }
+{
+    print_both(out, b"open: ", open_name(fault))?;
+    print_open_place(out, fault)?;
     Ok(())
 }
 
@@ -109,6 +171,7 @@ fn print_unwritten<W: Write>(out: &mut W, name: &Bytes) -> io::Result<()>
 {
     out.write_all(b"cannot write ")?;
     out.write_all(name.as_slice())?;
+    out.write_all(b": is there room, and may the folder be written?")?;
     Ok(())
 }
 

@@ -1,5 +1,5 @@
 -- What the words of a command line ask for, as `clap` has read them.
-use Rattle.std.proofs.Common.{◌≡◌, ◌∙◌, ap, refl, sym, true, List, Option, Result, Ok, Err, IfErr, IsErrAnd, IsErrOf, inl, inr}
+use Rattle.std.proofs.Common.{◌≡◌, ◌∙◌, ap, refl, true, List, Option, Result, IfErr, IsErrAnd, inl, inr}
 use Rattle.clap.specs.Words.{App, HasMatchesOf, Row, Text, is_simple, kind_of, takes}
 use Rattle.clap.specs.declared.error.Error.{Error}
 use Rattle.clap.specs.declared.error.kind.ErrorKind.TheVariants.{OutOfMemory}
@@ -14,9 +14,7 @@ use Rattle.program_frame.specs.declared.ending.Failure.TheVariants as failure
 use Rattle.program_frame.specs.declared.folder.FolderFault.TheVariants.{DayOpen}
 use Rattle.folders.specs.declared.named.NamedFile.{NamedFile}
 use Rattle.server_program.specs.declared.options.Options.{Options}
-use Rattle.server_program.specs.InputDays.{FileAnswers}
 use Rattle.server_program.specs.Program.{server_app, HasPaths, IsAskedBy, IsAskedIn, IsUnserved, IsUnservedAsAsked, IsWhyNotRead}
-use Rattle.server_program.specs.declared.served.Served.{Served}
 use Rattle.office_run.specs.declared.fault.ServeFault.{ServeFault}
 
 server_is_simple : is_simple server_app ≡ true
@@ -39,36 +37,21 @@ bad_date app words matches e h bad = by_words (λ (rows : List Row). HasPaths ro
 -- ---- why a run is not served
 
 -- the words are not read
-pub unread : {T : Type 0} (told : Result T (Ending (Failure ServeFault))) (answers : FileAnswers) (files : Option (List NamedFile)) (words : List Text) (why : Ending (Failure ServeFault)) → IsErrAnd told (λ ending. ending ≡ why) → IsWhyNotRead words why
-    → IfErr told (IsUnservedAsAsked answers files words)
-unread told answers files words why is h = told_end (IsUnservedAsAsked answers files words) told why is (inl h)
+pub unread : {T : Type 0} (told : Result T (Ending (Failure ServeFault))) (files : Option (List NamedFile)) (words : List Text)
+    (why : Ending (Failure ServeFault)) → IsErrAnd told (λ ending. ending ≡ why) → IsWhyNotRead words why
+    → IfErr told (IsUnservedAsAsked files words)
+unread told files words why is h = told_end (IsUnservedAsAsked files words) told why is (inl h)
 
 -- the run failed
-pub unserved : {T : Type 0} (told : Result T (Ending (Failure ServeFault))) (answers : FileAnswers) (files : Option (List NamedFile)) (words : List Text) (options : Options) (why : Failure ServeFault) → IsErrAnd told (λ ending. ending ≡ ended.Failed why)
-    → IsAskedIn words options → IsUnserved answers files options why → IfErr told (IsUnservedAsAsked answers files words)
-unserved told answers files words options why is asked h = told_end (IsUnservedAsAsked answers files words) told (ended.Failed why) is (inr (options, why, refl, asked, h))
+pub unserved : {T : Type 0} (told : Result T (Ending (Failure ServeFault))) (files : Option (List NamedFile)) (words : List Text) (options : Options)
+    (why : Failure ServeFault) → IsErrAnd told (λ ending. ending ≡ ended.Failed why)
+    → IsAskedIn words options → IsUnserved files options why → IfErr told (IsUnservedAsAsked files words)
+unserved told files words options why is asked h = told_end (IsUnservedAsAsked files words) told (ended.Failed why) is (inr (options, why, refl, asked, h))
 
--- ---- that a day is open
-
--- what the program says is what the run said
-pub said_open : (result : Result Served (Ending (Failure ServeFault))) (why : Failure ServeFault) → IsErrAnd result (λ ending. ending ≡ ended.Failed why) → IsErrOf result (ended.Failed (failure.Folder DayOpen)) → why ≡ failure.Folder DayOpen
-said_open (Ok report) why is told = absurd is
-said_open (Err ending) why is told =
-    let same : ending ≡ ended.Failed (failure.Folder DayOpen) = cc in
-    let both : ended.Failed why ≡ ended.Failed (failure.Folder DayOpen) = sym is ∙ same in
-    cc
-
--- words that are not read never ask for a run
+-- words that are not read are never told so for an open day
 pub unread_not_open : (words : List Text) (why : Ending (Failure ServeFault)) → IsWhyNotRead words why → why ≡ ended.Failed (failure.Folder DayOpen) → ⊥
 unread_not_open words ended.NoText not_read told = not_read
 unread_not_open words (ended.CommandLine error) not_read told = absurd cc
 unread_not_open words (ended.Failed failure.BadDate) not_read told = absurd cc
 unread_not_open words (ended.Failed (failure.Work fault)) not_read told = absurd cc
 unread_not_open words (ended.Failed (failure.Folder why)) not_read told = not_read
-
-pub unread_said : (result : Result Served (Ending (Failure ServeFault))) (words : List Text) (why : Ending (Failure ServeFault)) → IsErrAnd result (λ ending. ending ≡ why) → IsWhyNotRead words why
-    → IsErrOf result (ended.Failed (failure.Folder DayOpen)) → ⊥
-unread_said (Ok report) words why is not_read told = is
-unread_said (Err ending) words why is not_read told =
-    let same : ending ≡ ended.Failed (failure.Folder DayOpen) = cc in
-    unread_not_open words why not_read (sym is ∙ same)

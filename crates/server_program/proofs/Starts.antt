@@ -14,7 +14,7 @@ use Rattle.folders.proofs.SinceLaws.{with_files_same}
 use Rattle.office_run.specs.declared.fault.ServeFault.{ServeFault}
 use Rattle.program_frame.specs.declared.ending.Failure.{Failure}
 use Rattle.program_frame.specs.declared.ending.Failure.TheVariants.{BadDate, Work, Folder as OfFolder}
-use Rattle.program_frame.specs.declared.folder.FolderFault.TheVariants.{BadList, DayOpen, InUse, Unfinished, Unopened, Unrecovered, Unreplaced, Unwritten}
+use Rattle.program_frame.specs.declared.folder.FolderFault.TheVariants.{BadList, DayOpen, InUse, Unfinished, UnknownDay, Unopened, Unrecovered, Unreplaced, Unwritten}
 use Rattle.program_frame.specs.Jobs.{AreFilesOf}
 use Rattle.program_frame.specs.Placing.{EndsInPlace, MayPut, RecoversAsOneOf}
 use Rattle.server_program.specs.declared.options.Options.{Options}
@@ -33,6 +33,7 @@ or_unfinished (OfFolder Unrecovered) = inl (λ e. absurd cc)
 or_unfinished (OfFolder BadList) = inl (λ e. absurd cc)
 or_unfinished (OfFolder (Unreplaced name)) = inl (λ e. absurd cc)
 or_unfinished (OfFolder DayOpen) = inl (λ e. absurd cc)
+or_unfinished (OfFolder (UnknownDay log said)) = inl (λ e. absurd cc)
 or_unfinished (OfFolder Unwritten) = inl (λ e. absurd cc)
 or_unfinished (OfFolder Unfinished) = inr refl
 

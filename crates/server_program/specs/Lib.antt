@@ -1,5 +1,3 @@
-pub mod BesideDay
-pub mod InputDays
 pub mod Kept
 pub mod PlacedAnswers
 pub mod Program

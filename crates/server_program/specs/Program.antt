@@ -7,14 +7,13 @@ use Rattle.program_frame.specs.declared.ending.Ending.{Ending}
 use Rattle.program_frame.specs.declared.ending.Ending.TheVariants as ended
 use Rattle.program_frame.specs.declared.ending.Failure.{Failure}
 use Rattle.program_frame.specs.declared.ending.Failure.TheVariants as failure
-use Rattle.program_frame.specs.declared.folder.FolderFault.TheVariants as folder
 use Rattle.program_frame.specs.CommandLine.{flag_rule, program_app, required_rule, GivesDay, HasBadDate, IsFlag}
 use Rattle.program_frame.specs.Jobs.{ComesToItsEnd, IsLoadFailure as IsLoadFailureOf, IsPlaceFailure as IsPlaceFailureOf, IsRunFailure}
 use Rattle.program_frame.specs.Placing.{HasPutInto}
 use Rattle.office_run.specs.declared.close_fault.CloseFault.TheVariants.{Write}
 use Rattle.folders.specs.declared.named.NamedFile.{NamedFile}
-use Rattle.server_program.specs.BesideDay.{HasOpenDayIn, IsWithoutDay}
-use Rattle.server_program.specs.InputDays.{FileAnswers, HasInputDay, HasNoInputDay, IsInputFailure, IsInputLogFault}
+use Rattle.program_frame.specs.BesideDay.{HasOpenDayIn, IsWithoutDay}
+use Rattle.program_frame.specs.InputDays.{FileAnswers, HasInputDay, HasNoInputDay}
 use Rattle.server_program.specs.declared.options.Options.{Options}
 use Rattle.server_program.specs.declared.served.Served.{Served}
 use Rattle.office_run.specs.declared.fault.ServeFault.{ServeFault}
@@ -79,45 +78,31 @@ pub record IsServedAsAsked {D : Type 0} (m : DiskMeaning D) (is_folder : List �
   pub options : Options
   pub asked : IsAskedIn words options
   pub inputs : HasNoInputDay answers files options.setup.now
-  pub put : HasPutInto m (IsWithoutDay m (is_folder options.out.now)) (λ written. IsServedBy files options written served)
-
--- why the files of a run that was begun are not in place in the folder of a disk
-abbrev pub IsBegunFailure : Option (List NamedFile) → Options → Failure ServeFault → Type 0
-IsBegunFailure files options why =
-    IsPlaceFailureOf (IsServeFault files options.setup.now options.reindex options.today.year) NoMemory (ComesToItsEnd (IsServedBy files options)) why
+  pub put : HasPutInto m (IsWithoutDay m answers (is_folder options.out.now)) (λ written. IsServedBy files options written served)
 
 -- the words ask for a run into a folder in which a day is open, or from such folders
 pub record AskForOpenDay {D : Type 0} (m : DiskMeaning D) (is_folder : List ℕ → D → Type 0) (answers : FileAnswers) (files : Option (List NamedFile))
     (words : List Text) : Type 0 where
   pub options : Options
   pub asked : IsAskedIn words options
-  pub day : HasOpenDayIn m (is_folder options.out.now) ⊎ HasInputDay answers files options.setup.now
+  pub day : HasOpenDayIn m answers (is_folder options.out.now) ⊎ HasInputDay answers files options.setup.now
 
--- why there is no end of the run that the options ask for: as a whole run may fail, or since a log in a folder from which it reads can't be had
-abbrev pub IsServedFault : FileAnswers → Option (List NamedFile) → Options → ServeFault → Type 0
-IsServedFault answers files options fault =
-    IsServeFault files options.setup.now options.reindex options.today.year fault ⊎ IsInputLogFault answers files options.setup.now fault
+-- why the files of the run that the options ask for are not in place in the folder of a disk
+abbrev pub IsPlaceFailure : Option (List NamedFile) → Options → Failure ServeFault → Type 0
+IsPlaceFailure files options why =
+    IsPlaceFailureOf (IsServeFault files options.setup.now options.reindex options.today.year) NoMemory (ComesToItsEnd (IsServedBy files options)) why
 
--- why the new files are not in place in the folder of a disk: also since a day is open there, or in a folder from which it reads
-abbrev pub IsPlaceFailure : FileAnswers → Option (List NamedFile) → Options → Failure ServeFault → Type 0
-IsPlaceFailure answers files options (failure.Folder folder.DayOpen) = Unit {0}
-IsPlaceFailure answers files options why = IsPlaceFailureOf (IsServedFault answers files options) NoMemory (ComesToItsEnd (IsServedBy files options)) why
-
--- what the failure of a run that was begun says of the count of loads that failed
-abbrev pub IsBegunLoadFailure : Option (List NamedFile) → Option ℕ → Option ℕ → Failure ServeFault → Type 0
-IsBegunLoadFailure files before after why = IsLoadFailureOf (IsFailure files before after) NoMemory (after ≡ before) why
-
--- what a failure says of the count of loads that failed
-abbrev pub IsLoadFailure : FileAnswers → Option (List NamedFile) → List ℕ → Option ℕ → Option ℕ → Failure ServeFault → Type 0
-IsLoadFailure answers files setup before after why = IsLoadFailureOf (IsInputFailure answers files setup before after) NoMemory (after ≡ before) why
+-- what its failure says of the count of loads that failed
+abbrev pub IsLoadFailure : Option (List NamedFile) → Option ℕ → Option ℕ → Failure ServeFault → Type 0
+IsLoadFailure files before after why = IsLoadFailureOf (IsFailure files before after) NoMemory (after ≡ before) why
 
 -- why the run that the options ask for has not written its files, also since the folder can't be had
-abbrev pub IsUnserved : FileAnswers → Option (List NamedFile) → Options → Failure ServeFault → Type 0
-IsUnserved answers files options (failure.Folder folder.DayOpen) = Unit {0}
-IsUnserved answers files options why = IsRunFailure (IsServedFault answers files options) NoMemory (ComesToItsEnd (IsServedBy files options)) why
+abbrev pub IsUnserved : Option (List NamedFile) → Options → Failure ServeFault → Type 0
+IsUnserved files options why =
+    IsRunFailure (IsServeFault files options.setup.now options.reindex options.today.year) NoMemory (ComesToItsEnd (IsServedBy files options)) why
 
 -- why the run that the words ask for has not: they are not read, or the run failed
-abbrev pub IsUnservedAsAsked : FileAnswers → Option (List NamedFile) → List Text → Ending (Failure ServeFault) → Type 0
-IsUnservedAsAsked answers files words ending =
+abbrev pub IsUnservedAsAsked : Option (List NamedFile) → List Text → Ending (Failure ServeFault) → Type 0
+IsUnservedAsAsked files words ending =
     IsWhyNotRead words ending
-    ⊎ ((options : Options) × (why : Failure ServeFault) × (ending ≡ ended.Failed why) × IsAskedIn words options × IsUnserved answers files options why)
+    ⊎ ((options : Options) × (why : Failure ServeFault) × (ending ≡ ended.Failed why) × IsAskedIn words options × IsUnserved files options why)

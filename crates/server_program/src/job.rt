@@ -8,11 +8,11 @@ ghost use Rattle.office_run.specs.WholeRun.{IsServeFault};
 
 use crate::options::Options;
 use crate::served::Served;
-use crate::warning::warn_of_kept_files;
+use crate::warning::warn_of_files;
 use byte_io::Bytes;
 use folders::{Folder, Source};
 use office_run::{Asked, CloseFault, Gate, ServeFault, serve_asked};
-use program_frame::{Job, System};
+use program_frame::{Beside, Failure, Job, System, refuse_open_inputs};
 use std::alloc::Global;
 use std::io::Write;
 use std::sync::Wait;
@@ -33,6 +33,7 @@ pub struct ServeJob<'a, R: Threads + Wait + Sync, Y: System, G: Gate + Sync> {
 }
 
 impl<'a, R: Threads + Wait + Sync, Y: System, G: Gate + Sync> Job for ServeJob<'a, R, Y, G> {
+    ghost use Rattle.program_frame.specs.InputDays.{IsInputDay};
     ghost use Rattle.server_program.specs.Program.{says_unwritten};
 
     type Report = Served;
@@ -47,14 +48,25 @@ impl<'a, R: Threads + Wait + Sync, Y: System, G: Gate + Sync> Job for ServeJob<'
 
     ghost is_unwritten = { says_unwritten };
 
+    ghost finds_day = { λ job answers files found. IsInputDay answers files job.options.setup.now found };
+
+    fn refuse_open_day<S: Source, B: Beside>(
+        &self,
+        alloc: Global,
+        source: &mut S,
+        system: &B,
+    ) -> Result<(), Failure<ServeFault>> {
+        refuse_open_inputs(system, alloc, source, self.options.setup)
+    }
+
     fn is_unwritten(fault: &ServeFault) -> bool {
         matches!(fault, ServeFault::Close(CloseFault::Write(_)))
     }
 }
 
 impl<'a, R: Threads + Wait + Sync, Y: System, G: Gate + Sync> ServeJob<'a, R, Y, G> {
-    /// Serves the run: files are read from the source, and written into the folder. Which files of the setup stay as they are is
-    /// printed on `err`; a stream that takes no text changes nothing.
+    /// Serves the run: files are read from the source, and written into the folder. Which files of the setup stay as they are, and
+    /// which others are replaced, is printed on `err`; a stream that takes no text changes nothing.
     pub fn work<S: Source, F: Folder, E: Write>(
         &self,
         alloc: Global,
@@ -72,7 +84,7 @@ impl<'a, R: Threads + Wait + Sync, Y: System, G: Gate + Sync> ServeJob<'a, R, Y,
     {
         let options = self.options;
         let setup = Bytes::from_slice(alloc, options.setup.as_bytes())?;
-        warn_of_kept_files(self.system, alloc, &setup, source, options.out, err)?;
+        warn_of_files(self.system, alloc, &setup, source, options.out, err)?;
         let asked = Asked {
             setup: &setup,
             today: options.today,

@@ -3,17 +3,16 @@
 //! [`Options`] is what the command line says, [`ServeJob`] the whole run of it, and [`Served`] what is said where all files are
 //! written. How the new files take their places, and what is said where a call of the program fails, is the crate
 //! `program_frame`; the whole run is `office_run`. A run is refused where a live day is open, in the folder for the new files
-//! (`begin.rt`) or in one from which it reads (`inputs.rt`). Start reading at `job.rt`. What holds of the answers in the folder, and of runs
+//! or in one from which it reads. Start reading at `job.rt`. What holds of the answers in the folder, and of runs
 //! that are started again and again, is in `law.rt`.
 #![tactic(auto)]
 
-mod begin;
 mod in_place;
-mod inputs;
 mod job;
 mod kept;
 mod law;
 mod options;
+mod replaced;
 mod running;
 mod served;
 mod warning;

@@ -3,8 +3,8 @@
 ghost use Rattle.std.specs.Prelude.{◌≡◌, ◌⊎◌, IfErr, IfOk, IsErrOf, OnOk, map};
 ghost use Rattle.program_frame.specs.Placing.{HasPutInto};
 ghost use Rattle.program_frame.specs.declared.folder.FolderFault.{FolderFault};
-ghost use Rattle.server_program.specs.BesideDay.{HasOpenDayIn, IsWithoutDay};
-ghost use Rattle.server_program.specs.InputDays.{HasInputDay, HasNoInputDay};
+ghost use Rattle.program_frame.specs.BesideDay.{HasOpenDayIn, IsWithoutDay};
+ghost use Rattle.program_frame.specs.InputDays.{HasInputDay, HasNoInputDay};
 ghost use Rattle.server_program.specs.Program.{AskForOpenDay, IsServedAsAsked, IsServedBy, IsUnserved, IsUnservedAsAsked};
 
 use crate::in_place::serve_into;
@@ -33,12 +33,12 @@ fn serve_options<R: Threads + Wait + Sync, Y: System, S: Source, E: Write>(
     options: &Options<'_>,
 ) -> Result<Served, Failure<ServeFault>>
     ensures served { IfOk result (λ served.
-        HasPutInto Y.Disk.meaning (IsWithoutDay Y.Disk.meaning (Y.opens system.now options.now.out.now))
+        HasPutInto Y.Disk.meaning (IsWithoutDay Y.Disk.meaning (Y.answers system.now) (Y.opens system.now options.now.out.now))
         (λ written. IsServedBy (S.files source.old) options.now written served)) }
     ensures inputs { OnOk result (HasNoInputDay (Y.answers system.now) (S.files source.old) options.now.setup.now) }
-    ensures fault { IfErr result (IsUnserved (Y.answers system.now) (S.files source.old) options.now) }
+    ensures fault { IfErr result (IsUnserved (S.files source.old) options.now) }
     ensures kept { S.files source.new ≡ S.files source.old }
-    ensures open_day { IsErrOf result (Failure.Folder FolderFault.DayOpen) → HasOpenDayIn Y.Disk.meaning (Y.opens system.now options.now.out.now)
+    ensures open_day { IsErrOf result (Failure.Folder FolderFault.DayOpen) → HasOpenDayIn Y.Disk.meaning (Y.answers system.now) (Y.opens system.now options.now.out.now)
         ⊎ HasInputDay (Y.answers system.now) (S.files source.old) options.now.setup.now }
 {
     let job = ServeJob {
@@ -63,7 +63,7 @@ pub fn run_program<R: Threads + Wait + Sync, Y: System, S: Source, E: Write, T: 
 ) -> Result<Served, Ending<Failure<ServeFault>>>
     ensures served { IfOk result
         (IsServedAsAsked Y.Disk.meaning (Y.opens system.now) (Y.answers system.now) (S.files source.old) (map T.text words.entry.now)) }
-    ensures fault { IfErr result (IsUnservedAsAsked (Y.answers system.now) (S.files source.old) (map T.text words.entry.now)) }
+    ensures fault { IfErr result (IsUnservedAsAsked (S.files source.old) (map T.text words.entry.now)) }
     ensures kept { S.files source.new ≡ S.files source.old }
     // That a day is open is said only where it is: in the folder that the words name, or in one from which the run reads.
     ensures open_day { IsErrOf result (Ending.Failed (Failure.Folder FolderFault.DayOpen))

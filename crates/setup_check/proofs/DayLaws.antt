@@ -1,11 +1,14 @@
 -- Days that are open, one after another.
-use Rattle.std.proofs.Common.{◌≡◌, ℕ, Bool, true, false, not, cond, List, [], ◌∷◌, ◌++◌, Option, refl, ap, sym, subst, ◌∙◌, append_assoc}
+use Rattle.std.proofs.Common.{◌≡◌, ℕ, Bool, true, false, not, cond, List, [], ◌∷◌, ◌++◌, Option, Result, Ok, Err, refl, ap, sym, subst, ◌∙◌, append_assoc}
+use Rattle.std.specs.Prelude.{IfOk}
 use Rattle.std.proofs.lemmas.Bool.{false≢true}
 use Rattle.std.proofs.lemmas.List.{append-nil}
 use Rattle.folders.specs.declared.named.NamedFile.{NamedFile}
+use Rattle.folders.specs.Files.{IsFileOf}
 use Rattle.station_lines.specs.declared.setup.entry.SetupEntry.{SetupEntry}
 use Rattle.setup_check.specs.declared.open_days.LogFinding.{LogFinding}
-use Rattle.setup_check.specs.OpenDays.{day_line, day_lines, log_paths, AreDaysTold, AreLogFindings, IsLogFinding}
+use Rattle.setup_check.specs.declared.open_days.LogFinding.TheVariants.{Closed, Open, Unread}
+use Rattle.setup_check.specs.OpenDays.{day_line, day_lines, log_paths, AreDaysTold, AreLogFindings, IsFoundOfLog, IsLogFinding}
 
 -- a path that is known is not added,
 pub known_path : (known : Bool) (paths : List (List ℕ)) (path : List ℕ) → false ≡ not known → cond known paths (paths ++ path ∷ []) ≡ paths
@@ -16,6 +19,19 @@ known_path false paths path e = absurd (false≢true e)
 pub new_path : (known : Bool) (paths : List (List ℕ)) (path : List ℕ) → true ≡ not known → cond known paths (paths ++ path ∷ []) ≡ paths ++ path ∷ []
 new_path true paths path e = absurd (false≢true (sym e))
 new_path false paths path e = refl
+
+-- what is found of the bytes of a log that was loaded,
+log_of_path : (files : Option (List NamedFile)) (path log : List ℕ) (before after : Option ℕ) (finding : LogFinding) → IsFileOf files path log → after ≡ before
+    → IsFoundOfLog log finding → IsLogFinding files path before after finding
+log_of_path files path log before after (Open count) found same is = (log, found, is, same)
+log_of_path files path log before after Closed found same is = (log, found, is, same)
+log_of_path files path log before after (Unread why) found same is = absurd is
+
+-- is found of the log of its path
+pub found_log : {E : Type 0} (r : Result LogFinding E) (files : Option (List NamedFile)) (path log own : List ℕ) (before after : Option ℕ) → IsFileOf files path log → own ≡ log
+    → after ≡ before → IfOk r (IsFoundOfLog own) → IfOk r (IsLogFinding files path before after)
+found_log (Ok finding) files path log own before after found is same h = log_of_path files path log before after finding found same (subst (λ (l : List ℕ). IsFoundOfLog l finding) is h)
+found_log (Err e) files path log own before after found is same h = tt
 
 -- the findings of the logs of some paths were told
 pub record HasToldDays (files : Option (List NamedFile)) (before after : Option ℕ) (paths : List (List ℕ)) (text : List ℕ) : Type 0 where

@@ -99,6 +99,10 @@ counted_line path count bad first = path ++ (codes ": " ++ (decimal count ++ (co
 abbrev pub script_line : List ℕ → List (List ℕ) → List ℕ
 script_line path lines = counted_line path (length lines) (bad_count lines) (first_bad 1 lines)
 
+-- why a line is none of a script, and nothing where it is one
+abbrev pub bad_words : List ℕ → Option (List ℕ)
+bad_words line = if is_bad_line line then Some (reason_words (reason_of line)) else None
+
 -- a line for a bad line, and why it is bad
 abbrev pub bad_line_text : List ℕ → ℕ → List ℕ → List ℕ
 bad_line_text path number line = path ++ (codes ": " ++ (numbered_line number line ++ (codes ": " ++ (reason_words (reason_of line) ++ LF ∷ []))))

@@ -1,13 +1,13 @@
 //! Why lines are bad, in words.
 
-ghost use Rattle.std.specs.Prelude.{◌≡◌, ◌++◌, codes, OnOk};
+ghost use Rattle.std.specs.Prelude.{◌≡◌, ◌++◌, codes, option_map, IfOk, OnOk};
 ghost use Rattle.station_lines.specs.Script.BadLines.{reason_told};
 ghost use Rattle.station_lines.specs.BadSetupLines.{setup_reason_told};
-ghost use Rattle.setup_check.specs.ScriptLines.{reason_words, setup_reason_words, shown_line};
+ghost use Rattle.setup_check.specs.ScriptLines.{bad_words, reason_words, setup_reason_words, shown_line};
 
 use crate::shown_line::append_shown;
-use station_lines::{BadLine, BadSetupLine};
-use std::alloc::AllocError;
+use station_lines::{BadLine, BadSetupLine, why_bad};
+use std::alloc::{AllocError, Global};
 
 // Appends words, and a word of a line after them.
 fn append_before(text: &mut Vec<u8>, words: &[u8], word: &[u8]) -> Result<(), AllocError>
@@ -70,6 +70,20 @@ pub(crate) fn append_reason(text: &mut Vec<u8>, why: BadLine<'_>) -> Result<(), 
         BadLine::WordTooMany(word) => append_before(text, b"a word too many: ", word),
         BadLine::OtherForm => text.extend_from_slice(b"not the form of its command"),
     }
+}
+
+/// Why a line is none of a script, in words. `None` where it is one.
+///
+/// An `Err` says that there was no memory.
+pub fn bad_line_words(alloc: Global, line: &[u8]) -> Result<Option<Vec<u8>>, AllocError>
+    ensures words { IfOk result (λ words. option_map (λ text. text.items) words ≡ bad_words line.now) }
+{
+    let Some(why) = why_bad(alloc, line) else {
+        return Ok(None);
+    };
+    let mut text = Vec::new(alloc);
+    append_reason(&mut text, why)?;
+    Ok(Some(text))
 }
 
 /// Appends why a line of a setup is bad.

@@ -52,7 +52,7 @@ fn front(line: &[u8], count: usize) -> &[u8]
 /// every other byte as a backslash, `x` and its two digits to the base 16.
 ///
 /// An `Err` says that there was no memory.
-pub(crate) fn append_shown(text: &mut Vec<u8>, line: &[u8]) -> Result<(), AllocError>
+pub fn append_shown(text: &mut Vec<u8>, line: &[u8]) -> Result<(), AllocError>
     ensures ok { OnOk result (text.new.items ≡ text.old.items ++ shown_line line.now) }
 {
     for byte in front(line, MAX_SHOWN_BYTES) {

@@ -1,14 +1,16 @@
 use Rattle.std.proofs.Common.{map, ap, Err}
-use Rattle.server_program.proofs.Commands.{said_open, unread, unread_said, unserved}
+use Rattle.program_frame.proofs.BesideDay.{said_open, unread_said}
+use Rattle.server_program.proofs.Commands.{unread, unread_not_open, unserved}
 use Rattle.server_program.proofs.running.run_program.Goals as goal
 
 pub returns-in_err-options-clause-fault : goal.returns-in_err-options-clause-fault
 returns-in_err-options-clause-fault g c =
-    unread _ (g.Y.System.answers c.args.system.now) (g.S.Source.files c.args.source.now) (map g.T.AsStr.text c.args.words.now) _ c.from_residual.ensures.1 c.in_err-options.ensures.fault
+    unread _ (g.S.Source.files c.args.source.now) (map g.T.AsStr.text c.args.words.now) _ c.from_residual.ensures.1 c.in_err-options.ensures.fault
 
 pub returns-in_err-serve_options-clause-fault : goal.returns-in_err-serve_options-clause-fault
 returns-in_err-serve_options-clause-fault g c =
-    unserved _ (g.Y.System.answers c.args.system.now) (g.S.Source.files c.args.source.now) (map g.T.AsStr.text c.args.words.now) c.in_ok-options.options _ c.from_residual-in_err-serve_options.ensures.1 c.in_ok-options.ensures.asked
+    unserved _ (g.S.Source.files c.args.source.now) (map g.T.AsStr.text c.args.words.now) c.in_ok-options.options _
+    c.from_residual-in_err-serve_options.ensures.1 c.in_ok-options.ensures.asked
     c.in_err-serve_options.ensures.fault
 
 pub returns-clause-served : goal.returns-clause-served
@@ -20,7 +22,8 @@ returns-clause-served g c = record {
 }
 
 pub returns-in_err-options-clause-open_day : goal.returns-in_err-options-clause-open_day
-returns-in_err-options-clause-open_day g c told = absurd (unread_said _ (map g.T.AsStr.text c.args.words.now) _ c.from_residual.ensures.1 c.in_err-options.ensures.fault told)
+returns-in_err-options-clause-open_day g c told =
+    absurd (unread_said _ _ c.from_residual.ensures.1 (unread_not_open (map g.T.AsStr.text c.args.words.now) _ c.in_err-options.ensures.fault) told)
 
 pub returns-in_err-serve_options-clause-open_day : goal.returns-in_err-serve_options-clause-open_day
 returns-in_err-serve_options-clause-open_day g c told = record {
