@@ -11,6 +11,7 @@ use Rattle.program_frame.specs.declared.ending.Ending.{Ending}
 use Rattle.program_frame.specs.declared.ending.Ending.TheVariants as ended
 use Rattle.program_frame.specs.declared.ending.Failure.{Failure}
 use Rattle.program_frame.specs.declared.ending.Failure.TheVariants as failure
+use Rattle.program_frame.specs.declared.folder.FolderFault.TheVariants.{DayOpen}
 use Rattle.live_program.specs.declared.options.Options.{Options}
 use Rattle.live_program.specs.declared.failure.LiveFailure.{LiveFailure}
 use Rattle.live_program.specs.Asked.{prompt_app, HasPaths, IsAskedBy, IsAskedIn, IsWhyNotRead}
@@ -31,3 +32,11 @@ not_taken told app words error is e h = told_end (IsWhyNotRead words) told (ende
 pub bad_date : (app : App) (words : List Text) (matches : ArgMatches) → app ≡ prompt_app → HasMatchesOf app words matches → (HasPaths (option_rows matches) → HasBadDate (option_rows matches))
     → IsWhyNotRead words (ended.Failed failure.BadDate)
 bad_date app words matches e h bad = by_words (λ (rows : List Row). HasPaths rows → HasBadDate rows) prompt_app app words matches prompt_is_simple e h bad
+
+-- words that are not read are never told so for an open day
+pub unread_not_open : (words : List Text) (why : Ending (Failure LiveFailure)) → IsWhyNotRead words why → why ≡ ended.Failed (failure.Folder DayOpen) → ⊥
+unread_not_open words ended.NoText not_read told = not_read
+unread_not_open words (ended.CommandLine error) not_read told = absurd cc
+unread_not_open words (ended.Failed failure.BadDate) not_read told = absurd cc
+unread_not_open words (ended.Failed (failure.Work fault)) not_read told = absurd cc
+unread_not_open words (ended.Failed (failure.Folder why)) not_read told = not_read

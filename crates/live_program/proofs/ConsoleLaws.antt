@@ -1,5 +1,5 @@
 -- What was typed and shown is told by its numbers.
-use Rattle.std.proofs.Common.{◌≡◌, ◌∙◌, ℕ, ◌+◌, ◌<◌, List, [], ◌∷◌, ◌++◌, length, get_or, set, take, Option, Result, Ok, Err, refl, sym, ap, subst, arith, append_assoc, length-append}
+use Rattle.std.proofs.Common.{◌≡◌, ◌∙◌, ℕ, ◌+◌, ◌<◌, List, [], ◌∷◌, ◌++◌, length, get_or, set, take, Option, Some, Result, Ok, Err, refl, sym, ap, subst, arith, append_assoc, length-append}
 use Rattle.std.specs.Io.KnownBytes.{Appends}
 use Rattle.std.proofs.KnownBytes.{Appends-nil, Appends-trans}
 use Rattle.std.proofs.Math.Seq.{take-append_seam}
@@ -12,8 +12,11 @@ use Rattle.live_day.specs.declared.keyboard.Typed.TheVariants.{Text, TooLong, Cu
 use Rattle.live_day.specs.declared.waiting.WaitingAnswer.{WaitingAnswer}
 use Rattle.live_day.specs.Days.{DayValue}
 use Rattle.live_day.specs.Shows.{ShownLine}
+use Rattle.live_day.specs.Typing.{TypesNext}
 use Rattle.live_day.specs.Waiting.{ShowsFront, all_shown_after, shown_after}
-use Rattle.live_program.specs.Consoles.{HasPrinted, numbers_of_shown, numbers_of_typed, shown_of_numbers, shown_text, shown_texts, typed_of_numbers}
+use Rattle.live_program.specs.declared.reading.Origin.{Origin}
+use Rattle.live_program.specs.declared.reading.Origin.TheVariants.{Pipe, Terminal}
+use Rattle.live_program.specs.Consoles.{HasPrinted, known_text, numbers_of_shown, numbers_of_typed, shown_of_numbers, shown_text, shown_texts, typed_of_numbers}
 
 typed_again : (t : Typed) → typed_of_numbers (numbers_of_typed t) ≡ t
 typed_again (Text line) = refl
@@ -24,6 +27,12 @@ typed_again Cut = refl
 pub typed_more : (lists : List (List ℕ)) (t : Typed) → map typed_of_numbers (lists ++ numbers_of_typed t ∷ []) ≡ map typed_of_numbers lists ++ t ∷ []
 typed_more [] t = ap (λ (x : Typed). x ∷ []) (typed_again t)
 typed_more (l ∷ lists) t = ap (λ (ts : List Typed). typed_of_numbers l ∷ ts) (typed_more lists t)
+
+-- from a pipe the line was heard that was typed, and of a terminal nothing is said
+pub heard_next : (origin : Origin) (old new : Option (List ℕ)) (typed heard : Typed) → (origin ≡ Pipe → heard ≡ typed)
+    → TypesNext (known_text origin old) (Some typed) (known_text origin new) → TypesNext (known_text origin old) (Some heard) (known_text origin new)
+heard_next Pipe old new typed heard same next = subst (λ (t : Typed). TypesNext old (Some t) new) (sym (same refl)) next
+heard_next Terminal old new typed heard same next = tt
 
 -- one line more was shown
 pub shown_more : (lists : List (List ℕ)) (s : ShownLine) → map shown_of_numbers (lists ++ numbers_of_shown s ∷ []) ≡ map shown_of_numbers lists ++ s ∷ []

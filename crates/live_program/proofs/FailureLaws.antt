@@ -1,5 +1,5 @@
 -- Why a life failed, as its parts say it.
-use Rattle.std.proofs.Common.{◌≡◌, ◌∙◌, ◌∷◌, ◌++◌, Bool, true, List, ℕ, Option, Some, Result, Ok, Err, refl, sym, arith, subst, inl, inr}
+use Rattle.std.proofs.Common.{◌≡◌, ◌∙◌, ◌∷◌, ◌++◌, Bool, true, List, ℕ, Option, Some, Result, Ok, Err, refl, sym, ap, arith, subst, inl, inr}
 use Rattle.std.specs.Prelude.{⊤, IfErr, IsErr, IsErrAnd}
 use Rattle.std.specs.List.{Contains}
 use Rattle.std.proofs.lemmas.List.Elements.{Contains-append_right}
@@ -8,7 +8,7 @@ use Rattle.dbf_fields.specs.declared.day.Day.{Day}
 use Rattle.files_in_place.specs.declared.faults.SetFault.{SetFault}
 use Rattle.files_in_place.specs.declared.faults.SetFault.TheVariants as set
 use Rattle.files_in_place.specs.Disk.{DiskMeaning}
-use Rattle.files_in_place.specs.Folder.{recovered}
+use Rattle.files_in_place.specs.Folder.{Folder, recovered}
 use Rattle.folders.specs.declared.named.NamedFile.{NamedFile}
 use Rattle.office_run.specs.TablesWritten.{IsCutTables}
 use Rattle.office_run.specs.WholeRun.{IsReadFault}
@@ -25,13 +25,12 @@ use Rattle.folders.specs.declared.finish_fault.FinishFault.TheVariants as finish
 use Rattle.live_log.specs.declared.faults.LogFault.TheVariants as log
 use Rattle.live_day.specs.declared.run_fault.RunFault.TheVariants as run
 use Rattle.live_day.specs.declared.run_fault.RunFault.{RunFault}
-use Rattle.live_day.specs.declared.start_fault.StartFault.{StartFault}
-use Rattle.live_day.specs.Starts.{IsLogFault}
 use Rattle.live_log.specs.Gates.{or_empty_log}
 use Rattle.open_day.specs.OpenDay.{log_name}
 use Rattle.program_frame.specs.Placing.{IsRecovered}
 use Rattle.live_program.specs.Endings.{no_memory, run_failure}
-use Rattle.live_program.specs.Failures.{IsDayFailure, IsFileUnwritten, IsStopFailure, IsTableNamed, IsToldOf, IsUnclosed, IsUnended, IsUnendedFrom, IsUnstarted}
+use Rattle.live_program.specs.Heads.{IsBehindHead}
+use Rattle.live_program.specs.Failures.{IsDayFailure, IsFileUnwritten, IsOfStart, IsStopFailure, IsTableNamed, IsUnclosed, IsUnended, IsUnendedFrom, IsUnstarted}
 use Rattle.live_program.specs.declared.failure.LiveFailure.{LiveFailure}
 use Rattle.live_program.specs.declared.failure.LiveFailure.TheVariants as live
 use Rattle.live_program.specs.declared.options.Options.{Options}
@@ -80,58 +79,77 @@ unwritten_on is_such is_so (serve.Close (close.Write name)) on is = on name is
 unwritten_on is_such is_so fault on is = absurd is
 
 -- the tables are not opened
-pub unopened_tables : (told : Opened → StartFault → Type 0) (files : Option (List NamedFile)) (options : Options) (fault : ServeFault) → IsReadFault files options.setup.now fault
-    → IsUnstarted told files options (live.Serve fault)
-unopened_tables told files options fault unread = inl (record { fault = fault; unopened = unread_tables files options.setup.now options.reindex fault unread; why_is = refl })
+pub unopened_tables : {D : Type 0} (m : DiskMeaning D) (folder : Folder) (files : Option (List NamedFile)) (options : Options) (fault : ServeFault) → IsReadFault files options.setup.now fault
+    → IsUnstarted m folder files options (live.Serve fault)
+unopened_tables m folder files options fault unread = inl (record { fault = fault; unopened = unread_tables files options.setup.now options.reindex fault unread; why_is = refl })
 
 -- memory was refused
-pub refused_start : (told : Opened → StartFault → Type 0) (files : Option (List NamedFile)) (options : Options) → IsUnstarted told files options no_memory
-refused_start told files options = inl (record { fault = serve.NoMemory; unopened = tt; why_is = refl })
+pub refused_start : {D : Type 0} (m : DiskMeaning D) (folder : Folder) (files : Option (List NamedFile)) (options : Options) → IsUnstarted m folder files options no_memory
+refused_start m folder files options = inl (record { fault = serve.NoMemory; unopened = tt; why_is = refl })
 
--- of a log it is said the same where the folder was recovered
-pub recovered_told : {D : Type 0} (m : DiskMeaning D) (start now : D) (opened : Opened) (fault : StartFault) → (m.keeps_promises → IsRecovered m start now) → IsToldOf m (m.seen now) opened fault
-    → IsToldOf m (recovered (m.seen start)) opened fault
-recovered_told m start now opened fault recovered_to told promised =
-    subst (λ (o : Option (List ℕ)). IsLogFault opened (or_empty_log o) fault) ((recovered_to promised).same log_name) (told promised)
+-- why a day was not begun is said in the same way of another folder that has the same log
+told_there : {D : Type 0} (m : DiskMeaning D) (a b : Folder) (files : Option (List NamedFile)) (options : Options) (why : LiveFailure) → (m.keeps_promises → a log_name ≡ b log_name) → IsUnstarted m a files options why
+    → IsUnstarted m b files options why
+told_there m a b files options why same (inl tables) = inl tables
+told_there m a b files options why same (inr (inl log)) =
+    inr (inl (record {
+      opened = log.opened;
+      tables = log.tables;
+      read = log.read;
+      known = log.known;
+      earlier = log.earlier;
+      body = log.body;
+      behind = λ promised. subst (λ (o : Option (List ℕ)). IsBehindHead log.read options.reindex (or_empty_log o) log.earlier log.body) (same promised) (log.behind promised);
+      fault = log.fault;
+      told = log.told;
+      why_is = log.why_is;
+    }))
+told_there m a b files options why same (inr (inr (inl unplaced))) = inr (inr (inl unplaced))
+told_there m a b files options why same (inr (inr (inr other))) =
+    inr (inr (inr (record {
+      read = other.read;
+      known = other.known;
+      log = other.log;
+      there = λ promised. other.there promised ∙ ap (λ (o : Option (List ℕ)). or_empty_log o) (same promised);
+      told = other.told;
+    })))
 
--- of a day that was not begun, where this is said of each log of which that is
-pub told_on : (told told_then : Opened → StartFault → Type 0) (files : Option (List NamedFile)) (options : Options) (why : LiveFailure)
-    → ((opened : Opened) (fault : StartFault) → told opened fault → told_then opened fault) → IsUnstarted told files options why → IsUnstarted told_then files options why
-told_on told told_then files options why on (inl tables) = inl tables
-told_on told told_then files options why on (inr (inl log)) =
-    inr (inl (record { opened = log.opened; tables = log.tables; fault = log.fault; told = on log.opened log.fault log.told; why_is = log.why_is }))
-told_on told told_then files options why on (inr (inr unplaced)) = inr (inr unplaced)
+-- so where the folder was recovered
+pub recovered_told : {D : Type 0} (m : DiskMeaning D) (start now : D) (files : Option (List NamedFile)) (options : Options) (why : LiveFailure) → (m.keeps_promises → IsRecovered m start now)
+    → IsUnstarted m (m.seen now) files options why → IsUnstarted m (recovered (m.seen start)) files options why
+recovered_told m start now files options why recovered_to unstarted =
+    told_there m (m.seen now) (recovered (m.seen start)) files options why (λ promised. (recovered_to promised).same log_name) unstarted
 
--- a day that was begun has not failed for want of its log's place
-stop_begun : (fault : RunFault) → run_failure fault ≡ live.Unstarted → ⊥
-stop_begun (run.Log log.NoMemory) is = cc
-stop_begun (run.Log log.Closed) is = cc
-stop_begun (run.Log log.TooLong) is = cc
-stop_begun (run.Log log.Failed) is = cc
-stop_begun run.Screen is = cc
-stop_begun run.Unread is = cc
-stop_begun run.NoMemory is = cc
-
-unplaced_begun : (fault : FinishFault) → place_failure no_memory (unplaced_files fault) ≡ failure.Work live.Unstarted → ⊥
-unplaced_begun finish.NoMemory is = cc
-unplaced_begun finish.Unwritten is = cc
-unplaced_begun finish.Unfinished is = cc
+-- a day that was begun has not failed as one that was not
+stop_begun : (fault : RunFault) → IsOfStart (run_failure fault) → ⊥
+stop_begun (run.Log log.NoMemory) of_start = of_start
+stop_begun (run.Log log.Closed) of_start = of_start
+stop_begun (run.Log log.TooLong) of_start = of_start
+stop_begun (run.Log log.Failed) of_start = of_start
+stop_begun run.Screen of_start = of_start
+stop_begun run.Unread of_start = of_start
+stop_begun run.NoMemory of_start = of_start
 
 work_is : (a b : LiveFailure) → failure.Work a ≡ failure.Work b → a ≡ b
 work_is a b is = cc
 
-unclosed_begun : (h : History) (today : Day) → IsUnclosed h today (failure.Work live.Unstarted) → ⊥
-unclosed_begun h today (inl is) =
-    let same : live.Serve is.1.0 ≡ live.Unstarted = sym is.1.2 ∙ sym (work_is live.Unstarted is.0 is.2) in
-    cc
-unclosed_begun h today (inr is) = unplaced_begun is.0 (sym is.1)
+unplaced_begun : (fault : FinishFault) (why : LiveFailure) → IsOfStart why → place_failure no_memory (unplaced_files fault) ≡ failure.Work why → ⊥
+unplaced_begun finish.NoMemory why of_start is = subst IsOfStart (sym (work_is no_memory why is)) of_start
+unplaced_begun finish.Unwritten why of_start is = cc
+unplaced_begun finish.Unfinished why of_start is = cc
 
-unended_on : (is_told : RunFault → Type 0) (h : History) (today : Day) → IsUnended is_told h today (failure.Work live.Unstarted) → ⊥
-unended_on is_told h today (inl is) = stop_begun is.1.0 (sym is.1.2 ∙ sym (work_is live.Unstarted is.0 is.2))
-unended_on is_told h today (inr is) = unclosed_begun h today is
+unclosed_begun : (h : History) (today : Day) (why : LiveFailure) → IsOfStart why → IsUnclosed h today (failure.Work why) → ⊥
+unclosed_begun h today why of_start (inl is) =
+    let same : why ≡ live.Serve is.1.0 = work_is why is.0 is.2 ∙ is.1.2 in
+    subst IsOfStart same of_start
+unclosed_begun h today why of_start (inr is) = unplaced_begun is.0 why of_start (sym is.1)
 
-pub unended_begun : {T : Type 0} (is_told : History → RunFault → Type 0) (opened : Opened) (today : Day) (r : Result T (Failure LiveFailure)) → r ≡ Err (failure.Work live.Unstarted)
-    → IfErr r (IsUnendedFrom is_told opened today) → ⊥
-unended_begun is_told opened today r is ended =
-    let from : IsUnendedFrom is_told opened today (failure.Work live.Unstarted) = subst (λ x. IfErr x (IsUnendedFrom is_told opened today)) is ended in
-    unended_on (is_told from.0) from.0 today from.2
+unended_on : (is_told : RunFault → Type 0) (h : History) (today : Day) (why : LiveFailure) → IsOfStart why → IsUnended is_told h today (failure.Work why) → ⊥
+unended_on is_told h today why of_start (inl is) = stop_begun is.1.0 (subst IsOfStart (work_is why is.0 is.2 ∙ is.1.2) of_start)
+unended_on is_told h today why of_start (inr is) = unclosed_begun h today why of_start is
+
+pub unended_begun : {T : Type 0} (is_told : History → RunFault → Type 0) (opened : Opened) (today : Day) (r : Result T (Failure LiveFailure)) (why : LiveFailure) → IsOfStart why
+    → r ≡ Err (failure.Work why) → IfErr r (IsUnendedFrom is_told opened today) → ⊥
+unended_begun is_told opened today r why of_start is ended =
+    let from : IsUnendedFrom is_told opened today (failure.Work why) = subst (λ x. IfErr x (IsUnendedFrom is_told opened today)) is ended in
+    unended_on (is_told from.0) from.0 today why of_start from.2

@@ -6,7 +6,7 @@ use Rattle.std.specs.Io.KnownBytes.{Appends}
 use Rattle.catalogue_core.specs.declared.entry.Entry.{Entry}
 use Rattle.program_frame.proofs.Printing.{appends_then}
 use Rattle.live_program.proofs.FileLaws.{next_number}
-use Rattle.live_program.specs.Greetings.{again_line, again_text, earlier_line, earlier_text, last_entry, last_lines, last_said, or_before, own_entry, start_text}
+use Rattle.live_program.specs.Greetings.{again_line, again_text, earlier_line, earlier_said, earlier_text, last_entry, last_lines, last_said, or_before, own_entry, start_text}
 
 -- nothing was written
 pub appends_none : (o : Option (List ℕ)) → Appends o o []
@@ -68,12 +68,21 @@ pub earlier_some : (earlier : ℕ) (old new : Option (List ℕ)) → earlier ≢
 earlier_some zero old new some said = absurd (some refl)
 earlier_some (suc n) old new some said = said
 
+-- a day without a command of its own tells of the one before
+pub earlier_yet : (earlier : ℕ) (journal : List Entry) → length journal ≡ 0 → earlier_text earlier ≡ earlier_said earlier journal
+earlier_yet earlier [] none = refl
+earlier_yet earlier (e ∷ es) none = absurd (omega (arith, none))
+
+pub earlier_over : (earlier : ℕ) (journal : List Entry) → length journal ≢ 0 → earlier_text 0 ≡ earlier_said earlier journal
+earlier_over earlier [] some = absurd (some refl)
+earlier_over earlier (e ∷ es) some = refl
+
 -- both were put to a list
-pub start_said : (a b c : List ℕ) (earlier stations : ℕ) (journal : List Entry) → a ≡ [] → Appends (Some a) (Some b) (earlier_text earlier) → Appends (Some b) (Some c) (again_text stations journal)
-    → c ≡ start_text earlier stations journal
-start_said a b c earlier stations journal none first second =
+pub start_said : (a b c : List ℕ) (told earlier stations : ℕ) (journal : List Entry) → a ≡ [] → Appends (Some a) (Some b) (earlier_text told) → earlier_text told ≡ earlier_said earlier journal
+    → Appends (Some b) (Some c) (again_text stations journal) → c ≡ start_text earlier stations journal
+start_said a b c told earlier stations journal none first same second =
     let then_text : List ℕ = again_text stations journal in
-    second ∙ ap (λ (l : List ℕ). l ++ then_text) (first ∙ ap (λ (l : List ℕ). l ++ earlier_text earlier) none)
+    second ∙ ap (λ (l : List ℕ). l ++ then_text) (first ∙ ap (λ (l : List ℕ). l ++ earlier_text told) none ∙ same)
 
 -- what holds of what was printed holds with what follows from it
 pub told_as : {T E F : Type 0} (r : Result (Result T E) F) (P Q : Type 0) → (P → Q) → IfOk r (λ p. OnOk p P) → IfOk r (λ p. OnOk p Q)

@@ -7,7 +7,7 @@ use Rattle.std.specs.List.{AllByRecursion}
 use Rattle.std.proofs.lemmas.Bool.{cases_Bool}
 use Rattle.std.proofs.lemmas.List.{append-nil, length-map, map-append}
 use Rattle.std.proofs.lemmas.Slice.Eq.{bytes_eq-Decides}
-use Rattle.catalogue_core.specs.Replay.{History}
+use Rattle.catalogue_core.specs.Replay.{AreOfStations, History, IsLegal}
 use Rattle.files_in_place.specs.Disk.{AfterStep, DiskMeaning, IsSyncedDisk, LeavesOnly, OnlyReads}
 use Rattle.files_in_place.specs.Folder.{Folder, Name, SameBut, first_of, is_reserved, list_name, recovered}
 use Rattle.files_in_place.specs.Recovery.{HasOldFiles, IsClean, IsFinished, RecoversTo, SameFree, StillRecovers}
@@ -23,11 +23,14 @@ use Rattle.folders.specs.Files.{file_at}
 use Rattle.folders.specs.Placed.{with_files}
 use Rattle.station_lines.specs.JournalLines.{line_parts, HaveSmallNumbers}
 use Rattle.live_log.proofs.GateLaws.{after_shut}
-use Rattle.live_log.specs.Gates.{LineParts, log_of, or_empty_log, StandsFor}
+use Rattle.live_log.specs.Gates.{LineParts, log_of, or_empty_log}
 use Rattle.live_log.specs.Logs.{HasLog}
 use Rattle.live_log.specs.Placing.{IsOldOrPlacedWith}
 use Rattle.live_day.specs.Days.{DayValue, HasGoneOn, IsLogged, parts_of}
 use Rattle.live_day.specs.Sessions.{IsDayRun}
+use Rattle.live_day.specs.Stops.{HasLogOf, IsDayStopped}
+use Rattle.live_day.proofs.SessionLaws.{obeyed_none}
+use Rattle.live_day.proofs.StoppedLaws.{stopped_all, stopped_by}
 use Rattle.live_day.specs.Shows.{HasFrontIn, IsKeptLine, KeepsShown, ShownLine}
 use Rattle.live_day.specs.declared.keyboard.Typed.{Typed}
 use Rattle.office_run.specs.TablesWritten.{dated_files}
@@ -39,9 +42,11 @@ use Rattle.program_frame.specs.declared.ending.Ending.TheVariants as ending
 use Rattle.program_frame.specs.declared.ending.Failure.{Failure}
 use Rattle.live_program.specs.Asked.{IsAskedIn, IsWhyNotRead}
 use Rattle.live_program.specs.Closings.{answer_files_of, closed_log_file, file_of_bytes, AreEndFiles, IsDayPlaced, IsOldOrDay}
-use Rattle.open_day.specs.OpenDay.{closed_log, log_name, IsEarlier}
+use Rattle.open_day.specs.OpenDay.{closed_log, log_name}
 use Rattle.live_program.specs.declared.closing.DayEnd.{DayEnd}
-use Rattle.live_program.specs.Lives.{end_of_day, EndsDay, GoesOn, IsFound, IsLife, IsNeverLost, IsOpenOrClosed, IsLifeOver, IsOpenStill, IsUnbegunDay, IsUnlived}
+use Rattle.live_program.specs.Sayings.{HasToldFound, IsFoundText, IsSaidOf}
+use Rattle.live_program.specs.Heads.{IsBehindHead}
+use Rattle.live_program.specs.Lives.{end_of_day, EndsDay, GoesOn, IsFound, IsLeftNow, IsLife, IsNeverLost, IsOpenOrClosed, IsLifeOver, IsOpenStill, IsUnbegunDay, IsUnlived}
 use Rattle.live_program.specs.declared.failure.LiveFailure.{LiveFailure}
 use Rattle.live_program.specs.declared.lived.Lived.{Lived}
 use Rattle.live_program.specs.declared.options.Options.{Options}
@@ -113,16 +118,16 @@ placed_on h end old now new same placed = record {
 -- ---- what is left of a folder
 
 -- what stands for one of these folders stands for the other
-pub either_on : (least : ℕ) (last : History) (end : DayEnd) (old now left : Folder) → SameBut log_name old now → IsOpenOrClosed least last end now left → IsOpenOrClosed least last end old left
-either_on least last end old now left same (inl has) = inl (record { kept = has.kept; elsewhere = λ n other. has.elsewhere n other ∙ same n other })
-either_on least last end old now left same (inr closed) =
+pub either_on : (head : List ℕ) (least : ℕ) (last : History) (end : DayEnd) (old now left : Folder) → SameBut log_name old now → IsOpenOrClosed head least last end now left → IsOpenOrClosed head least last end old left
+either_on head least last end old now left same (inl has) = inl (record { kept = has.kept; elsewhere = λ n other. has.elsewhere n other ∙ same n other })
+either_on head least last end old now left same (inr closed) =
     inr (closed.0, closed.1, λ n. closed.2 n ∙ with_day_files last end closed.0 old now closed.1 same n)
 
 -- a log in a folder without files of reserved names is what recovery leaves
-pub front_recovered : (name : Name) (least : ℕ) (journal : List LineParts) (old now left : Folder) → name ≡ log_name → IsClean now → SameBut log_name old now → HasFrontIn name least journal now left
-    → HasFrontIn log_name least journal old (recovered left)
-front_recovered name least journal old now left is clean same has =
-    let here : HasFrontIn log_name least journal now left = subst (λ (n : Name). HasFrontIn n least journal now left) is has in
+pub front_recovered : (name : Name) (head : List ℕ) (least : ℕ) (journal : List LineParts) (old now left : Folder) → name ≡ log_name → IsClean now → SameBut log_name old now → HasFrontIn name head least journal now left
+    → HasFrontIn log_name head least journal old (recovered left)
+front_recovered name head least journal old now left is clean same has =
+    let here : HasFrontIn log_name head least journal now left = subst (λ (n : Name). HasFrontIn n head least journal now left) is has in
     let no_list : left list_name ≡ None = here.elsewhere list_name (other_reserved list_name refl) ∙ clean list_name refl in
     let finished : IsFinished left = unlisted_finished left no_list in
     record {
@@ -142,9 +147,9 @@ front_recovered name least journal old now left is clean same has =
     }
 
 -- the old files, their log among them
-old_open : (least : ℕ) (last : History) (old now left : Folder) → least ≤ length last.journal → HasLog log_name (parts_of last.journal) now → IsClean now → SameBut log_name old now → HasOldFiles now left
-    → IsOpenStill least last old left
-old_open least last old now left enough has clean same kept = record {
+old_open : (head : List ℕ) (least : ℕ) (last : History) (old now left : Folder) → least ≤ length last.journal → HasLog log_name head (parts_of last.journal) now → IsClean now → SameBut log_name old now → HasOldFiles now left
+    → IsOpenStill head least last old left
+old_open head least last old now left enough has clean same kept = record {
   kept = record {
     log = log_of (parts_of last.journal);
     there = kept.recovers log_name ∙ (without_free now log_name refl ∙ has.there);
@@ -161,20 +166,20 @@ old_open least last old now left enough has clean same kept = record {
 }
 
 -- a day that is being closed
-closing_left : (least : ℕ) (last : History) (end : DayEnd) (old now left : Folder) → least ≤ length last.journal → HasLog log_name (parts_of last.journal) now → IsClean now → SameBut log_name old now
-    → IsOldOrDay last end now left → IsOpenOrClosed least last end old left
-closing_left least last end old now left enough has clean same (inl kept) = inl (old_open least last old now left enough has clean same kept)
-closing_left least last end old now left enough has clean same (inr files) =
+closing_left : (head : List ℕ) (least : ℕ) (last : History) (end : DayEnd) (old now left : Folder) → least ≤ length last.journal → HasLog log_name head (parts_of last.journal) now → IsClean now → SameBut log_name old now
+    → IsOldOrDay last end now left → IsOpenOrClosed head least last end old left
+closing_left head least last end old now left enough has clean same (inl kept) = inl (old_open head least last old now left enough has clean same kept)
+closing_left head least last end old now left enough has clean same (inr files) =
     inr (files.0, files.1, λ n. files.2 n ∙ with_day_files last end files.0 old now files.1 same n)
 
 -- a day that begins: its log takes the place of the one that was found
-pub beginning_left : (first last : History) (old found left : Folder) → HaveSmallNumbers (parts_of first.journal) → HasGoneOn first last → IsClean found → ((n : Name) → old n ≡ found n)
-    → IsOldOrPlacedWith log_name (log_of (parts_of first.journal)) [] old left → RecoversTo found left ⊎ IsOpenStill (length first.journal) last found left
-beginning_left first last old found left small on clean same (inl kept) = inl (λ n. elim (cases_Bool (is_reserved n)) [
+pub beginning_left : (head : List ℕ) (first last : History) (old found left : Folder) → HaveSmallNumbers (parts_of first.journal) → HasGoneOn first last → IsClean found → ((n : Name) → old n ≡ found n)
+    → IsOldOrPlacedWith log_name (head ++ log_of (parts_of first.journal)) [] old left → RecoversTo found left ⊎ IsOpenStill head (length first.journal) last found left
+beginning_left head first last old found left small on clean same (inl kept) = inl (λ n. elim (cases_Bool (is_reserved n)) [
   | inl reserved ↦ recovered_reserved left n reserved ∙ sym (clean n reserved)
   | inr free ↦ kept n free ∙ same n
 ])
-beginning_left first last old found left small on clean same (inr placed) = inr (record {
+beginning_left head first last old found left small on clean same (inr placed) = inr (record {
   kept = record {
     log = log_of (parts_of first.journal);
     there = placed.file;
@@ -248,7 +253,8 @@ module _ {D : Type 0} (m : DiskMeaning D) where
   -- ---- the lines of a day
 
   module _ (promised : m.keeps_promises) (begun day : DayValue D) (end : DayEnd) (shown shown_then : List ShownLine) (kept : KeepsShown m begun day shown shown_then)
-      (is : begun.log.name ≡ log_name) (clean : IsClean (m.seen begun.log.disk)) where
+      (is : begun.log.name ≡ log_name) (clean : IsClean (m.seen begun.log.disk)) (legal : IsLegal day.history.opened day.history.journal)
+      (of_stations : AreOfStations day.history.opened day.history.journal) where
     same_since : SameBut log_name (m.seen begun.log.disk) (m.seen day.log.disk)
     same_since n other = kept.after.others n (λ at. other (at ∙ is))
 
@@ -258,42 +264,55 @@ module _ {D : Type 0} (m : DiskMeaning D) where
     clean_since : IsClean (m.seen day.log.disk)
     clean_since = clean_but_log (m.seen begun.log.disk) (m.seen day.log.disk) same_since clean
 
-    run_leaves : LeavesOnly m begun.log.disk day.log.disk (λ left. ⊥ ⊎ IsOpenOrClosed (length begun.history.journal) day.history end (m.seen begun.log.disk) left)
+    run_leaves : LeavesOnly m begun.log.disk day.log.disk (λ left. ⊥ ⊎ IsOpenOrClosed begun.log.head (length begun.history.journal) day.history end (m.seen begun.log.disk) left)
     run_leaves = leaves_as m begun.log.disk day.log.disk _ _ (kept.after.moments promised)
-        (λ left has. inr (inl (front_recovered begun.log.name (length begun.history.journal) (parts_of day.history.journal) (m.seen begun.log.disk) (m.seen begun.log.disk) left is clean (λ n other. refl) has)))
+        (λ left has. inr (inl (front_recovered begun.log.name begun.log.head (length begun.history.journal) (parts_of day.history.journal) (m.seen begun.log.disk) (m.seen begun.log.disk) left is clean (λ n other. refl) has)))
 
-    shown_left : (s : ShownLine) → IsKeptLine m day s → (left : Folder) → m.left_since day.log.disk s.moment left → IsOpenOrClosed s.count day.history end (m.seen begun.log.disk) left
+    shown_left : (s : ShownLine) → IsKeptLine m day s → (left : Folder) → m.left_since day.log.disk s.moment left → IsOpenOrClosed begun.log.head s.count day.history end (m.seen begun.log.disk) left
     shown_left s line left since =
-        inl (front_recovered day.log.name s.count (parts_of day.history.journal) (m.seen begun.log.disk) (m.seen day.log.disk) left name_still clean_since same_since (line.kept promised left since))
+        inl (front_recovered day.log.name begun.log.head s.count (parts_of day.history.journal) (m.seen begun.log.disk) (m.seen day.log.disk) left name_still clean_since same_since
+        (subst (λ (h : List ℕ). HasFrontIn day.log.name h s.count (parts_of day.history.journal) (m.seen day.log.disk) left) kept.after.head (line.kept promised left since)))
 
     -- the day was stopped
-    pub stopped_day : GoesOn m (λ left. ⊥) (m.seen begun.log.disk) begun.history day.history end shown shown_then begun.log.disk day.log.disk
+    pub stopped_day : GoesOn m (λ left. ⊥) begun.log.head (m.seen begun.log.disk) begun.history day.history end shown shown_then begun.log.disk day.log.disk
     stopped_day = record {
       journal = kept.after.history;
+      legal = legal;
+      of_stations = of_stations;
       lines = kept.lines;
       more = kept.more;
-      each = each_by (IsKeptLine m day) (IsNeverLost m (m.seen begun.log.disk) day.history end day.log.disk) kept.lines
+      each = each_by (IsKeptLine m day) (IsNeverLost m begun.log.head (m.seen begun.log.disk) day.history end day.log.disk) kept.lines
           (λ s line. record { told = line.told; among = line.among; kept = shown_left s line }) kept.each;
       moments = run_leaves;
     }
 
-    module _ (now : D) (logged : IsLogged m day) (closing : LeavesOnly m day.log.disk now (IsOldOrDay day.history end (m.seen day.log.disk))) where
-      has_log : HasLog log_name (parts_of day.history.journal) (m.seen day.log.disk)
-      has_log = subst (λ (n : Name). HasLog n (parts_of day.history.journal) (m.seen day.log.disk)) name_still logged
+    -- and its log stands
+    pub left_stopped : (least : ℕ) → HasLogOf m day least → IsLeftNow m (λ left. ⊥) begun.log.head (m.seen begun.log.disk) begun.history day.history end day.log.disk least
+    left_stopped least has left may =
+        inl (inl (front_recovered day.log.name begun.log.head least (parts_of day.history.journal) (m.seen begun.log.disk) (m.seen day.log.disk) left name_still clean_since same_since
+        (subst (λ (h : List ℕ). HasFrontIn day.log.name h least (parts_of day.history.journal) (m.seen day.log.disk) left) kept.after.head (has promised left may))))
 
-      closing_open : (least : ℕ) (left : Folder) → least ≤ length day.history.journal → IsOldOrDay day.history end (m.seen day.log.disk) left → IsOpenOrClosed least day.history end (m.seen begun.log.disk) left
-      closing_open least left enough either = closing_left least day.history end (m.seen begun.log.disk) (m.seen day.log.disk) left enough has_log clean_since same_since either
+    module _ (now : D) (logged : IsLogged m day) (closing : LeavesOnly m day.log.disk now (IsOldOrDay day.history end (m.seen day.log.disk))) where
+      has_log : HasLog log_name begun.log.head (parts_of day.history.journal) (m.seen day.log.disk)
+      has_log =
+          subst (λ (n : Name). HasLog n begun.log.head (parts_of day.history.journal) (m.seen day.log.disk)) name_still
+          (subst (λ (h : List ℕ). HasLog day.log.name h (parts_of day.history.journal) (m.seen day.log.disk)) kept.after.head logged)
+
+      closing_open : (least : ℕ) (left : Folder) → least ≤ length day.history.journal → IsOldOrDay day.history end (m.seen day.log.disk) left → IsOpenOrClosed begun.log.head least day.history end (m.seen begun.log.disk) left
+      closing_open least left enough either = closing_left begun.log.head least day.history end (m.seen begun.log.disk) (m.seen day.log.disk) left enough has_log clean_since same_since either
 
       longer : length begun.history.journal ≤ length day.history.journal
       longer = omega (arith, ap length kept.after.history.journal, length-append begun.history.journal kept.after.history.more)
 
       -- the day was closed, or could not be
-      pub closed_day : GoesOn m (λ left. ⊥) (m.seen begun.log.disk) begun.history day.history end shown shown_then begun.log.disk now
+      pub closed_day : GoesOn m (λ left. ⊥) begun.log.head (m.seen begun.log.disk) begun.history day.history end shown shown_then begun.log.disk now
       closed_day = record {
         journal = kept.after.history;
+        legal = legal;
+        of_stations = of_stations;
         lines = kept.lines;
         more = kept.more;
-        each = each_by (IsKeptLine m day) (IsNeverLost m (m.seen begun.log.disk) day.history end now) kept.lines
+        each = each_by (IsKeptLine m day) (IsNeverLost m begun.log.head (m.seen begun.log.disk) day.history end now) kept.lines
             (λ s line. record {
               told = line.told;
               among = line.among;
@@ -303,21 +322,32 @@ module _ {D : Type 0} (m : DiskMeaning D) where
             (λ left either. inr (closing_open (length begun.history.journal) left longer either));
       }
 
+      -- all entries are left then
+      pub left_closing : IsLeftNow m (λ left. ⊥) begun.log.head (m.seen begun.log.disk) begun.history day.history end now (length day.history.journal)
+      left_closing left may =
+          inl (closing_open (length day.history.journal) left (omega arith) (closing.each left (m.counts_now now (m.moment day.log.disk) left closing.later may)))
+
       pub placed_day : IsDayPlaced day.history end (m.seen day.log.disk) (m.seen now) → IsDayPlaced day.history end (m.seen begun.log.disk) (m.seen now)
       placed_day placed = placed_on day.history end (m.seen begun.log.disk) (m.seen day.log.disk) (m.seen now) same_since placed
 
 -- what was typed was obeyed, and the day was closed, or could not be
-pub day_ends : {D : Type 0} (m : DiskMeaning D) (ended : Type 0) (typed typed_then : List Typed) (before : Folder → Type 0) (found : Folder) (first last : History) (end : DayEnd) (shown shown_then : List ShownLine) (start now : D)
-    (how : Result Lived (Failure LiveFailure)) → IsDayRun ended typed typed_then first last shown shown_then → GoesOn m before found first last end shown shown_then start now
-    → (P : Type 0) → (P → IsDayPlaced last end found (m.seen now)) → OnOk how P → IfOk how (λ lived. lived.count ≡ length last.journal) → EndsDay m ended typed typed_then before found first end shown shown_then start now how
-day_ends m ended typed typed_then before found first last end shown shown_then start now (Ok lived) run on P by placed count = record { last = last; goes_on = on; run = run; placed = by placed; count = count }
-day_ends m ended typed typed_then before found first last end shown shown_then start now (Err why) run on P by placed count = (last, on)
+pub day_ends : {D : Type 0} (m : DiskMeaning D) (ended : Type 0) (typed typed_then : List Typed) (before : Folder → Type 0) (head : List ℕ) (found : Folder) (first last : History) (end : DayEnd) (shown shown_then : List ShownLine) (start now : D)
+    (how : Result Lived (Failure LiveFailure)) → IsDayRun ended typed typed_then first last shown shown_then → GoesOn m before head found first last end shown shown_then start now
+    → IsLeftNow m before head found first last end now (length last.journal) → (P : Type 0) → (P → IsDayPlaced last end found (m.seen now)) → OnOk how P → IfOk how (λ lived. lived.count ≡ length last.journal)
+    → EndsDay m ended typed typed_then before head found first end shown shown_then start now how
+day_ends m ended typed typed_then before head found first last end shown shown_then start now (Ok lived) run on left P by placed count = record { last = last; goes_on = on; run = run; placed = by placed; count = count }
+day_ends m ended typed typed_then before head found first last end shown shown_then start now (Err why) run on left P by placed count = record {
+  last = last;
+  goes_on = on;
+  run = stopped_all (IsLeftNow m before head found first last end now) typed run.typed_before typed_then run.end first last shown shown_then run.station run.obeyed run.read left;
+}
 
 -- or it was stopped
-pub stopped_ends : {D : Type 0} (m : DiskMeaning D) (ended : Type 0) (typed typed_then : List Typed) (before : Folder → Type 0) (found : Folder) (first last : History) (end : DayEnd) (shown shown_then : List ShownLine) (start now : D)
-    (how : Result Lived (Failure LiveFailure)) → IsErr how → GoesOn m before found first last end shown shown_then start now → EndsDay m ended typed typed_then before found first end shown shown_then start now how
-stopped_ends m ended typed typed_then before found first last end shown shown_then start now (Ok lived) failed on = absurd cc
-stopped_ends m ended typed typed_then before found first last end shown shown_then start now (Err why) failed on = (last, on)
+pub stopped_ends : {D : Type 0} (m : DiskMeaning D) (ended : Type 0) (typed typed_then : List Typed) (before : Folder → Type 0) (head : List ℕ) (found : Folder) (first last : History) (end : DayEnd) (shown shown_then : List ShownLine) (start now : D)
+    (how : Result Lived (Failure LiveFailure)) → IsErr how → GoesOn m before head found first last end shown shown_then start now
+    → IsDayStopped (IsLeftNow m before head found first last end now) typed typed_then first last shown shown_then → EndsDay m ended typed typed_then before head found first end shown shown_then start now how
+stopped_ends m ended typed typed_then before head found first last end shown shown_then start now (Ok lived) failed on run = absurd cc
+stopped_ends m ended typed typed_then before head found first last end shown shown_then start now (Err why) failed on run = record { last = last; goes_on = on; run = run }
 
 -- ---- since the folder was recovered
 
@@ -334,84 +364,119 @@ module _ {D : Type 0} (m : DiskMeaning D) (promised : m.keeps_promises) (start d
     | inr free ↦ same n free ∙ recovery.same n
   ])
 
-  found_since : (files : Option (List NamedFile)) (options : Options) (first : History) (earlier : ℕ) → IsFound files options (m.seen disk) first earlier → IsFound files options (recovered (m.seen start)) first earlier
-  found_since files options first earlier found = record {
+  found_since : (files : Option (List NamedFile)) (options : Options) (head : List ℕ) (first : History) (earlier : ℕ) → IsFound files options (m.seen disk) head first earlier
+      → IsFound files options (recovered (m.seen start)) head first earlier
+  found_since files options head first earlier found = record {
     opened = found.opened;
-    log = subst (λ (o : Option (List ℕ)). StandsFor (or_empty_log o) (parts_of first.journal)) (recovery.same log_name) found.log;
+    read = found.read;
+    known = found.known;
+    head_is = found.head_is;
+    body = found.body;
+    behind = subst (λ (o : Option (List ℕ)). IsBehindHead found.read options.reindex (or_empty_log o) earlier found.body) (recovery.same log_name) found.behind;
+    log = found.log;
     legal = found.legal;
     of_stations = found.of_stations;
-    before = subst (λ (o : Option (List ℕ)). IsEarlier (or_empty_log o) earlier) (recovery.same log_name) found.before;
+  }
+
+  found_text_since : (files : Option (List NamedFile)) (options : Options) (old now : Option (List ℕ)) → IsSaidOf (IsFoundText files options (m.seen disk)) old now
+      → IsSaidOf (IsFoundText files options (recovered (m.seen start))) old now
+  found_text_since files options old now (inl none) = inl none
+  found_text_since files options old now (inr said) =
+      let is = said.1 in
+      inr (said.0, (is.0, is.1, is.2, found_since files options is.0 is.1 is.2 is.3, is.4), said.2)
+
+  -- what was said of it is said of the folder that recovery makes
+  pub told_since : (files : Option (List NamedFile)) (options : Options) (old now : Option (List ℕ)) → HasToldFound files options (m.seen disk) old now
+      → HasToldFound files options (recovered (m.seen start)) old now
+  told_since files options old now told = record {
+    between = told.between;
+    kept_files = told.kept_files;
+    found = found_text_since files options told.between now told.found;
   }
 
   -- up to the moment when the log that was found has its place
-  beginning_leaves : (files : Option (List NamedFile)) (options : Options) (first last : History) (earlier : ℕ) (end : DayEnd) (now : D) → IsFound files options (m.seen disk) first earlier → HasGoneOn first last → LeavesOnly m disk now (IsOldOrPlacedWith log_name (log_of (parts_of first.journal)) [] (m.seen disk))
-      → LeavesOnly m start now (λ left. RecoversAsOneOf (m.may_leave start) left ⊎ IsOpenOrClosed (length first.journal) last end (recovered (m.seen start)) left)
-  beginning_leaves files options first last earlier end now found on leaves =
-      leaves_on m start disk now (AfterStep StillRecovers (m.may_leave start)) (IsOldOrPlacedWith log_name (log_of (parts_of first.journal)) [] (m.seen disk)) _ recovery.moments leaves
+  beginning_leaves : (files : Option (List NamedFile)) (options : Options) (head : List ℕ) (first last : History) (earlier : ℕ) (end : DayEnd) (now : D) → IsFound files options (m.seen disk) head first earlier → HasGoneOn first last → LeavesOnly m disk now (IsOldOrPlacedWith log_name (head ++ log_of (parts_of first.journal)) [] (m.seen disk))
+      → LeavesOnly m start now (λ left. RecoversAsOneOf (m.may_leave start) left ⊎ IsOpenOrClosed head (length first.journal) last end (recovered (m.seen start)) left)
+  beginning_leaves files options head first last earlier end now found on leaves =
+      leaves_on m start disk now (AfterStep StillRecovers (m.may_leave start)) (IsOldOrPlacedWith log_name (head ++ log_of (parts_of first.journal)) [] (m.seen disk)) _ recovery.moments leaves
       (λ left from. inl (from.0, from.1, from.2.recovers))
-      (λ left either. ⊎_elim (λ (to : RecoversTo (recovered (m.seen start)) left). inl (as_found left to)) (λ (open_still : IsOpenStill (length first.journal) last (recovered (m.seen start)) left). inr (inl open_still))
-      (beginning_left first last (m.seen disk) (recovered (m.seen start)) left found.log.small on none_reserved recovery.same either))
+      (λ left either. ⊎_elim (λ (to : RecoversTo (recovered (m.seen start)) left). inl (as_found left to)) (λ (open_still : IsOpenStill head (length first.journal) last (recovered (m.seen start)) left). inr (inl open_still))
+      (beginning_left head first last (m.seen disk) (recovered (m.seen start)) left found.log.small on none_reserved recovery.same either))
 
   -- no day has begun
-  pub unbegun_life : (ended : Type 0) (typed typed_then : List Typed) (files : Option (List NamedFile)) (options : Options) (shown : List ShownLine) (now : D) (how : Result Lived (Failure LiveFailure)) → IsErr how → IsUnbegunDay m files options disk now
-      → IsLife m ended typed typed_then files options shown shown start now how
-  unbegun_life ended typed typed_then files options shown now (Ok lived) failed stops = absurd cc
-  unbegun_life ended typed typed_then files options shown now (Err why) failed (inl leaves) = inl (record {
+  pub unbegun_life : (ended : Type 0) (typed : List Typed) (files : Option (List NamedFile)) (options : Options) (shown : List ShownLine) (now : D) (how : Result Lived (Failure LiveFailure)) → IsErr how → IsUnbegunDay m files options disk now
+      → IsLife m ended typed typed files options shown shown start now how
+  unbegun_life ended typed files options shown now (Ok lived) failed stops = absurd cc
+  unbegun_life ended typed files options shown now (Err why) failed (inl leaves) = inl (record {
     unshown = refl;
     moments = leaves_on m start disk now (AfterStep StillRecovers (m.may_leave start)) (λ left. SameFree (m.seen disk) (recovered left)) (RecoversAsOneOf (m.may_leave start)) recovery.moments leaves
         (λ left from. (from.0, from.1, from.2.recovers)) still_found;
   })
-  unbegun_life ended typed typed_then files options shown now (Err why) failed (inr stops) =
-      let first = stops.0 in
-      let earlier = stops.1 in
-      let found = stops.2 in
+  unbegun_life ended typed files options shown now (Err why) failed (inr stops) =
+      let head : List ℕ = stops.0 in
+      let first : History = stops.1 in
+      let earlier : ℕ = stops.2 in
+      let found = stops.3 in
+      let end : DayEnd = end_of_day options.today earlier in
+      let moments = beginning_leaves files options head first first earlier end now found (none_more first) stops.4 in
       inr (record {
+        head = head;
         first = first;
         earlier = earlier;
-        found = found_since files options first earlier found;
-        ends = (
-          first,
-          record {
+        found = found_since files options head first earlier found;
+        ends = record {
+          last = first;
+          goes_on = record {
             journal = none_more first;
+            legal = found.legal;
+            of_stations = found.of_stations;
             lines = [];
             more = sym (append-nil shown);
             each = tt;
-            moments = beginning_leaves files options first first earlier (end_of_day options.today earlier) now found (none_more first) stops.3;
-          },
-        );
+            moments = moments;
+          };
+          run = stopped_all (IsLeftNow m (RecoversAsOneOf (m.may_leave start)) head (recovered (m.seen start)) first first end now) typed typed typed [] first first shown shown 1
+              (obeyed_none typed first shown) (sym (append-nil typed))
+              (λ left may. ⊎_elim (λ (before : RecoversAsOneOf (m.may_leave start) left). inr (refl, before))
+              (λ (open_or : IsOpenOrClosed head (length first.journal) first end (recovered (m.seen start)) left). inl open_or)
+              (moments.each left (m.counts_now now (m.moment start) left moments.later may)));
+        };
       })
 
-  module _ (files : Option (List NamedFile)) (options : Options) (begun : DayValue D) (earlier : ℕ) (found : IsFound files options (m.seen disk) begun.history earlier) (clean : IsClean (m.seen begun.log.disk))
+  module _ (files : Option (List NamedFile)) (options : Options) (begun : DayValue D) (earlier : ℕ) (found : IsFound files options (m.seen disk) begun.log.head begun.history earlier) (clean : IsClean (m.seen begun.log.disk))
       (others : (n : Name) → is_reserved n ≡ false → n ≢ log_name → m.seen begun.log.disk n ≡ m.seen disk n)
-      (leaves : LeavesOnly m disk begun.log.disk (IsOldOrPlacedWith log_name (log_of (parts_of begun.history.journal)) [] (m.seen disk))) where
+      (leaves : LeavesOnly m disk begun.log.disk (IsOldOrPlacedWith log_name (begun.log.head ++ log_of (parts_of begun.history.journal)) [] (m.seen disk))) where
     begun_same : SameBut log_name (recovered (m.seen start)) (m.seen begun.log.disk)
     begun_same = same_but_log (recovered (m.seen start)) (m.seen begun.log.disk) none_reserved clean (λ n free other. others n free other ∙ recovery.same n)
 
-    life_on : (last : History) (end : DayEnd) (shown shown_then : List ShownLine) (now : D) → GoesOn m (λ left. ⊥) (m.seen begun.log.disk) begun.history last end shown shown_then begun.log.disk now
-        → GoesOn m (RecoversAsOneOf (m.may_leave start)) (recovered (m.seen start)) begun.history last end shown shown_then start now
+    life_on : (last : History) (end : DayEnd) (shown shown_then : List ShownLine) (now : D) → GoesOn m (λ left. ⊥) begun.log.head (m.seen begun.log.disk) begun.history last end shown shown_then begun.log.disk now
+        → GoesOn m (RecoversAsOneOf (m.may_leave start)) begun.log.head (recovered (m.seen start)) begun.history last end shown shown_then start now
     life_on last end shown shown_then now on = record {
       journal = on.journal;
+      legal = on.legal;
+      of_stations = on.of_stations;
       lines = on.lines;
       more = on.more;
-      each = each_by (IsNeverLost m (m.seen begun.log.disk) last end now) (IsNeverLost m (recovered (m.seen start)) last end now) on.lines
+      each = each_by (IsNeverLost m begun.log.head (m.seen begun.log.disk) last end now) (IsNeverLost m begun.log.head (recovered (m.seen start)) last end now) on.lines
           (λ s line. record {
             told = line.told;
             among = line.among;
-            kept = λ left since. either_on s.count last end (recovered (m.seen start)) (m.seen begun.log.disk) left begun_same (line.kept left since);
+            kept = λ left since. either_on begun.log.head s.count last end (recovered (m.seen start)) (m.seen begun.log.disk) left begun_same (line.kept left since);
           }) on.each;
-      moments = leaves_on m start begun.log.disk now _ _ _ (beginning_leaves files options begun.history last earlier end begun.log.disk found on.journal leaves) on.moments (λ left either. either)
+      moments = leaves_on m start begun.log.disk now _ _ _ (beginning_leaves files options begun.log.head begun.history last earlier end begun.log.disk found on.journal leaves) on.moments (λ left either. either)
           (λ left either. ⊎_elim (λ (none : ⊥). absurd none)
-          (λ (open_or : IsOpenOrClosed (length begun.history.journal) last end (m.seen begun.log.disk) left).
-          inr (either_on (length begun.history.journal) last end (recovered (m.seen start)) (m.seen begun.log.disk) left begun_same open_or)) either);
+          (λ (open_or : IsOpenOrClosed begun.log.head (length begun.history.journal) last end (m.seen begun.log.disk) left).
+          inr (either_on begun.log.head (length begun.history.journal) last end (recovered (m.seen start)) (m.seen begun.log.disk) left begun_same open_or)) either);
     }
 
     -- a day that had begun ended so
     pub begun_life : (ended : Type 0) (typed typed_then : List Typed) (shown shown_then : List ShownLine) (now : D) (how : Result Lived (Failure LiveFailure))
-        → EndsDay m ended typed typed_then (λ left. ⊥) (m.seen begun.log.disk) begun.history (end_of_day options.today earlier) shown shown_then begun.log.disk now how → IsLife m ended typed typed_then files options shown shown_then start now how
+        → EndsDay m ended typed typed_then (λ left. ⊥) begun.log.head (m.seen begun.log.disk) begun.history (end_of_day options.today earlier) shown shown_then begun.log.disk now how → IsLife m ended typed typed_then files options shown shown_then start now how
     begun_life ended typed typed_then shown shown_then now (Ok lived) ends = record {
+      head = begun.log.head;
       first = begun.history;
       earlier = earlier;
-      found = found_since files options begun.history earlier found;
+      found = found_since files options begun.log.head begun.history earlier found;
       ends = record {
         last = ends.last;
         goes_on = life_on ends.last (end_of_day options.today earlier) shown shown_then now ends.goes_on;
@@ -420,12 +485,24 @@ module _ {D : Type 0} (m : DiskMeaning D) (promised : m.keeps_promises) (start d
         count = ends.count;
       };
     }
-    begun_life ended typed typed_then shown shown_then now (Err why) ends = inr (record {
-      first = begun.history;
-      earlier = earlier;
-      found = found_since files options begun.history earlier found;
-      ends = (ends.0, life_on ends.0 (end_of_day options.today earlier) shown shown_then now ends.1);
-    })
+    begun_life ended typed typed_then shown shown_then now (Err why) ends =
+        let end : DayEnd = end_of_day options.today earlier in
+        inr (record {
+          head = begun.log.head;
+          first = begun.history;
+          earlier = earlier;
+          found = found_since files options begun.log.head begun.history earlier found;
+          ends = record {
+            last = ends.last;
+            goes_on = life_on ends.last end shown shown_then now ends.goes_on;
+            run = stopped_by (IsLeftNow m (λ left. ⊥) begun.log.head (m.seen begun.log.disk) begun.history ends.last end now)
+                (IsLeftNow m (RecoversAsOneOf (m.may_leave start)) begun.log.head (recovered (m.seen start)) begun.history ends.last end now)
+                (λ least is left may. ⊎_elim
+                (λ (open_or : IsOpenOrClosed begun.log.head least ends.last end (m.seen begun.log.disk) left).
+                inl (either_on begun.log.head least ends.last end (recovered (m.seen start)) (m.seen begun.log.disk) left begun_same open_or))
+                (λ none. absurd none.1) (is left may)) typed typed_then begun.history ends.last shown shown_then ends.run;
+          };
+        })
 
 -- a folder that could not be recovered
 pub unrecovered_life : {D : Type 0} (m : DiskMeaning D) (ended : Type 0) (typed typed_then : List Typed) (files : Option (List NamedFile)) (options : Options) (shown : List ShownLine) (start now : D) (how : Result Lived (Failure LiveFailure)) → IsErr how

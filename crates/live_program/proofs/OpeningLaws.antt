@@ -12,9 +12,13 @@ use Rattle.catalogue_core.specs.Replay.{Opened}
 use Rattle.folders.specs.declared.named.NamedFile.{NamedFile}
 use Rattle.office_run.specs.Loading.{LoadAll, Read, nothing, IsFaultIn}
 use Rattle.office_run.specs.WholeRun.{IsReadFault, IsSaid}
+use Rattle.office_run.specs.FileSums.{paths_in}
+use Rattle.setup_files.specs.Noted.{AreNoted}
+use Rattle.journal_file.specs.declared.sum.FileSum.{FileSum}
+use Rattle.journal_file.specs.WholeText.{sum_of_file}
 use Rattle.office_run.specs.declared.fault.ServeFault.{ServeFault}
 use Rattle.office_run.specs.declared.fault.ServeFault.TheVariants as serve
-use Rattle.live_program.specs.Openings.{before_tables, seats_in, tables_in, with_table, AreTablesOpened, AreTablesUnopened, IsSeatFault}
+use Rattle.live_program.specs.Openings.{before_tables, seats_in, tables_in, with_table, AreFilesRead, AreTablesOpened, AreTablesUnopened, IsSeatFault}
 
 -- an element of a list that is one longer is an earlier one or the last, and these stand before it
 abbrev EarlierOrLast : {A : Type 0} → List A → A → A → ℕ → Type 0
@@ -163,6 +167,27 @@ tables_opened files setup reindex entries counted tables read stations opened sa
       loaded = subst (λ (es : List SetupEntry). LoadAll files es nothing read) taken loaded;
       opening = subst (λ (n : ℕ). Opening reindex n read.tables (Ok opened.tables)) seated opening;
       stations = count ∙ seated;
+    }
+
+-- ---- what was read
+
+-- where sums are wanted there are some
+noted_some : (files : Option (List NamedFile)) (paths : List (List ℕ)) (sums : List FileSum) (new : Option (List FileSum)) → AreNoted files paths (Some sums) new → (all : List FileSum) × (new ≡ Some all)
+noted_some files [] sums new noted = (sums, noted)
+noted_some files (path ∷ paths) sums new noted = noted_some files paths (sums ++ sum_of_file path noted.0 ∷ []) new noted.2
+
+-- the setup, and then what its tables name
+pub all_noted : (files : Option (List NamedFile)) (setup : List ℕ) (entries tables : List SetupEntry) (mid new : Option (List FileSum)) (read : List FileSum) → IsSaid files setup (Ok entries) → tables ≡ tables_in entries
+    → AreNoted files (setup ∷ []) (Some []) mid → AreNoted files (paths_in tables) mid new → ((sums : List FileSum) → new ≡ Some sums → read ≡ sums) → AreFilesRead files setup read
+all_noted files setup entries tables mid new read said taken first rest is =
+    let both : AreNoted files (setup ∷ paths_in tables) (Some []) new = (first.0, first.1, subst (λ (o : Option (List FileSum)). AreNoted files (paths_in tables) o new) first.2 rest) in
+    let some = noted_some files (setup ∷ paths_in tables) [] new both in
+    let now : new ≡ Some read = some.1 ∙ ap (λ (l : List FileSum). Some l) (sym (is some.0 some.1)) in
+    record {
+      entries = entries;
+      said = said;
+      noted = subst (λ (es : List SetupEntry). AreNoted files (setup ∷ paths_in es) (Some []) (Some read)) taken
+          (subst (λ (o : Option (List FileSum)). AreNoted files (setup ∷ paths_in tables) (Some []) o) now both);
     }
 
 -- ---- why they are not opened

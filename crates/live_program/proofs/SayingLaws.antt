@@ -4,12 +4,14 @@ use Rattle.std.specs.Prelude.{Option, OnErr}
 use Rattle.std.proofs.KnownBytes.{Keeps-refl}
 use Rattle.clap.specs.Words.{Text}
 use Rattle.catalogue_core.specs.Replay.{History}
+use Rattle.files_in_place.specs.Folder.{Folder}
 use Rattle.folders.specs.declared.named.NamedFile.{NamedFile}
 use Rattle.live_program.specs.Asked.{IsAskedIn}
 use Rattle.live_program.specs.Consoles.{AppendsFront}
 use Rattle.live_program.specs.Greetings.{start_text}
+use Rattle.live_program.specs.Lives.{IsFound}
 use Rattle.live_program.specs.Openings.{AreTablesOpened}
-use Rattle.live_program.specs.Sayings.{HasSaidAtStart, HasSaidFor, IsKeptText, IsSaidOf}
+use Rattle.live_program.specs.Sayings.{HasSaidAtStart, HasSaidFor, HasToldFound, IsKeptText, IsSaidOf}
 use Rattle.live_program.specs.declared.options.Options.{Options}
 
 pub nothing_said : (is_text : List ℕ → Type 0) (old : Option (List ℕ)) → IsSaidOf is_text old old
@@ -39,6 +41,24 @@ start_said files options old between now last earlier warned opened front = reco
   between = between;
   kept_files = warned;
   again = inr (start_text earlier last.opened.stations last.journal, (last, earlier, opened, refl), front);
+}
+
+-- of what was found in a folder nothing was said
+pub silent_found : (files : Option (List NamedFile)) (options : Options) (folder : Folder) (old : Option (List ℕ)) → HasToldFound files options folder old old
+silent_found files options folder old = record { between = old; kept_files = inl (Keeps-refl old); found = inl (Keeps-refl old) }
+
+pub found_warned : (files : Option (List NamedFile)) (options : Options) (folder : Folder) (old now : Option (List ℕ)) → IsSaidOf (IsKeptText files options.setup.now) old now
+    → HasToldFound files options folder old now
+found_warned files options folder old now warned = record { between = now; kept_files = warned; found = inl (Keeps-refl now) }
+
+-- both were said
+pub found_told : (files : Option (List NamedFile)) (options : Options) (folder : Folder) (old between now : Option (List ℕ)) (head : List ℕ) (first : History) (earlier : ℕ)
+    → IsSaidOf (IsKeptText files options.setup.now) old between → IsFound files options folder head first earlier
+    → AppendsFront between now (start_text earlier first.opened.stations first.journal) → HasToldFound files options folder old now
+found_told files options folder old between now head first earlier warned found front = record {
+  between = between;
+  kept_files = warned;
+  found = inr (start_text earlier first.opened.stations first.journal, (head, first, earlier, found, refl), front);
 }
 
 -- the words ask for it

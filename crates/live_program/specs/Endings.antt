@@ -60,13 +60,19 @@ run_failure run.Screen = failure.Unshown
 run_failure run.Unread = failure.Unread
 run_failure run.NoMemory = no_memory
 
--- the exit status: as the server's, 5 where the log does not hold, and 4 where it or the answers can't be written
+-- the exit status: as the server's, 5 where the log does not hold, 4 where it, the answers or a mark can't be written, and 2 for a file
+-- that has the name of one of the day's own
 abbrev pub status : LiveFailure → ℕ
 status (failure.Serve why) = fault_status why
 status (failure.NoLog number) = 5
+status (failure.OtherFile path) = 5
+status failure.OtherReindex = 5
+status failure.OtherVersion = 5
 status (failure.Entry why) = 5
 status (failure.Log why) = 4
 status failure.Unstarted = 4
+status (failure.Unmarked folder) = 4
+status (failure.OwnName path) = 2
 status failure.Unshown = 4
 status failure.Unread = 2
 
@@ -82,13 +88,30 @@ entry_reason (fault.Differs d) = difference_reason d
 entry_reason fault.TooLong = codes "the log has too many entries"
 entry_reason fault.NoMemory = codes "run: NoMemory"
 
+-- a file is not the one with which the day of the log began
+abbrev pub other_reason : List ℕ → List ℕ
+other_reason path = path ++ codes " is not the file with which the day of the log began"
+
+-- a folder can't be given the mark of a day
+abbrev pub unmarked_reason : List ℕ → List ℕ
+unmarked_reason folder = codes "cannot put STATIONS.DAY into " ++ folder
+
+-- a file that a day reads has the name of one of its own
+abbrev pub own_name_reason : List ℕ → List ℕ
+own_name_reason path = path ++ codes ": STATIONS.LOG and STATIONS.DAY are files of a day's own"
+
 -- how a call that failed ends: what is said on standard error
 abbrev pub reason : LiveFailure → List ℕ
 reason (failure.Serve why) = fault_reason why
 reason (failure.NoLog number) = codes "entry " ++ (decimal number ++ codes " of the log: STATIONS.LOG is no log of this version, or somebody has changed it")
+reason (failure.OtherFile path) = other_reason path
+reason failure.OtherReindex = codes "the day of the log did not begin with --reindex as it is given here"
+reason failure.OtherVersion = codes "STATIONS.LOG is no log of this version, or somebody has changed it"
 reason (failure.Entry why) = entry_reason why
 reason (failure.Log why) = codes "cannot write the log: the next start goes on with it"
 reason failure.Unstarted = codes "cannot read or write the log"
+reason (failure.Unmarked folder) = unmarked_reason folder
+reason (failure.OwnName path) = own_name_reason path
 reason failure.Unshown = codes "cannot print the answers: the next start goes on with the log"
 reason failure.Unread = codes "cannot read the lines: the next start goes on with the log"
 

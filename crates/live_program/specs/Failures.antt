@@ -23,7 +23,7 @@ use Rattle.office_run.specs.declared.fault.ServeFault.{ServeFault}
 use Rattle.office_run.specs.declared.fault.ServeFault.TheVariants.{Close, NoMemory}
 use Rattle.open_day.specs.OpenDay.{log_name}
 use Rattle.program_frame.specs.Endings.{place_failure}
-use Rattle.program_frame.specs.Jobs.{IsUnbegun}
+use Rattle.program_frame.specs.Jobs.{IsUnrecovered}
 use Rattle.program_frame.specs.PlaceFaults.{unplaced_files, IsOfLock}
 use Rattle.program_frame.specs.declared.ending.Ending.{Ending}
 use Rattle.program_frame.specs.declared.ending.Ending.TheVariants as ending
@@ -32,7 +32,10 @@ use Rattle.program_frame.specs.declared.ending.Failure.TheVariants as failure
 use Rattle.program_frame.specs.declared.folder.PlaceFault.{PlaceFault}
 use Rattle.live_program.specs.Asked.{IsAskedIn, IsWhyNotRead}
 use Rattle.live_program.specs.Endings.{no_memory, run_failure, start_failure, unplaced_log, unread_log}
-use Rattle.live_program.specs.Openings.{AreTablesOpened, AreTablesUnopened}
+use Rattle.journal_file.specs.declared.sum.FileSum.{FileSum}
+use Rattle.live_program.specs.Heads.{IsBehindHead, IsHeadFailure}
+use Rattle.live_program.specs.Openings.{AreFilesRead, AreTablesOpened, AreTablesUnopened}
+use Rattle.live_program.specs.OtherDays.{IsOtherRefusal}
 use Rattle.live_program.specs.declared.failure.LiveFailure.{LiveFailure}
 use Rattle.live_program.specs.declared.failure.LiveFailure.TheVariants as live
 use Rattle.live_program.specs.declared.options.Options.{Options}
@@ -45,26 +48,47 @@ pub record IsTablesFailure (files : Option (List NamedFile)) (options : Options)
   pub unopened : AreTablesUnopened files options.setup.now options.reindex fault
   pub why_is : why ≡ live.Serve fault
 
--- the tables of the setup are opened, but what the log says is not performed once more on them, for a fault of which this says when
--- it is told
-pub record IsLogFailure (is_told : Opened → StartFault → Type 0) (files : Option (List NamedFile)) (options : Options) (why : LiveFailure) : Type 0 where
+-- they are, but what the folder's log says behind its head does not hold on them, up to this fault, where the disk keeps its promises
+pub record IsLogFailure {D : Type 0} (m : DiskMeaning D) (folder : Folder) (files : Option (List NamedFile)) (options : Options) (why : LiveFailure) : Type 0 where
   pub opened : Opened
   pub tables : AreTablesOpened files options.setup.now options.reindex opened
+  pub read : List FileSum
+  pub known : AreFilesRead files options.setup.now read
+  pub earlier : ℕ
+  pub body : List ℕ
+  pub behind : m.keeps_promises → IsBehindHead read options.reindex (or_empty_log (folder log_name)) earlier body
   pub fault : StartFault
-  pub told : is_told opened fault
+  pub told : IsLogFault opened body fault
   pub why_is : why ≡ start_failure fault
 
 -- the log was not read, or that of the same entries has not got its place
 abbrev pub IsLogUnplaced : LiveFailure → Type 0
 IsLogUnplaced why = ((fault : DiskFault) × (why ≡ unread_log fault)) ⊎ ((fault : SetFault) × (why ≡ unplaced_log fault))
 
--- why a day was not begun: one of the three
-abbrev pub IsUnstarted : (Opened → StartFault → Type 0) → Option (List NamedFile) → Options → LiveFailure → Type 0
-IsUnstarted is_told files options why = IsTablesFailure files options why ⊎ IsLogFailure is_told files options why ⊎ IsLogUnplaced why
+-- or the folder's log is none of this version, or has not begun with the files that were read
+pub record IsOtherDay {D : Type 0} (m : DiskMeaning D) (folder : Folder) (files : Option (List NamedFile)) (options : Options) (why : LiveFailure) : Type 0 where
+  pub read : List FileSum
+  pub known : AreFilesRead files options.setup.now read
+  pub log : List ℕ
+  pub there : m.keeps_promises → log ≡ or_empty_log (folder log_name)
+  pub told : IsHeadFailure log read options.reindex why
 
--- where the disk keeps its promises, the folder's log does not hold on the opened tables, up to this fault
-abbrev pub IsToldOf : {D : Type 0} → DiskMeaning D → Folder → Opened → StartFault → Type 0
-IsToldOf m folder opened fault = m.keeps_promises → IsLogFault opened (or_empty_log (folder log_name)) fault
+-- one of the four
+abbrev pub IsUnstarted : {D : Type 0} → DiskMeaning D → Folder → Option (List NamedFile) → Options → LiveFailure → Type 0
+IsUnstarted m folder files options why =
+    IsTablesFailure files options why ⊎ IsLogFailure m folder files options why ⊎ IsLogUnplaced why ⊎ IsOtherDay m folder files options why
+
+-- The log that was found, its folder, or another from which the day reads lets no day begin: no day that was begun ends so.
+abbrev pub IsOfStart : LiveFailure → Type 0
+IsOfStart (live.NoLog number) = Unit {0}
+IsOfStart (live.OtherFile path) = Unit {0}
+IsOfStart live.OtherReindex = Unit {0}
+IsOfStart live.OtherVersion = Unit {0}
+IsOfStart (live.Entry fault) = Unit {0}
+IsOfStart live.Unstarted = Unit {0}
+IsOfStart (live.Unmarked folder) = Unit {0}
+IsOfStart (live.OwnName path) = Unit {0}
+IsOfStart why = ⊥
 
 -- ---- a day that was begun
 
@@ -128,12 +152,13 @@ abbrev pub IsUnendedOn : (History → RunFault → Type 0) → Option (List Name
 IsUnendedOn is_told files options why =
     (opened : Opened) × AreTablesOpened files options.setup.now options.reindex opened × IsUnendedFrom is_told opened options.today why
 
--- a life over the folder of a disk failed: the folder was not recovered, the day was not begun, or has not come to its end
+-- a life over the folder of a disk failed: the folder was not recovered, another day is open where this one reads, the day was not begun, or has not come to its end
 abbrev pub IsLifeFailure : {D : Type 0} → DiskMeaning D → (History → RunFault → Type 0) → Option (List NamedFile) → Options → D
     → Failure LiveFailure → Type 0
 IsLifeFailure m is_told files options disk why =
-    IsUnbegun no_memory why
-    ⊎ ((fault : LiveFailure) × IsUnstarted (IsToldOf m (recovered (m.seen disk))) files options fault × (why ≡ failure.Work fault))
+    IsUnrecovered no_memory why
+    ⊎ IsOtherRefusal files options why
+    ⊎ ((fault : LiveFailure) × IsUnstarted m (recovered (m.seen disk)) files options fault × (why ≡ failure.Work fault))
     ⊎ IsUnendedOn is_told files options why
 
 -- a life over the folder of a disk failed, or its folder was not opened

@@ -5,6 +5,7 @@ use Rattle.catalogue_core.specs.declared.entry.Entry.{Entry}
 use Rattle.station_lines.specs.AnswerLines.{line_of}
 use Rattle.station_lines.specs.CommandLines.{text_of_command}
 use Rattle.station_lines.specs.declared.script.format.TheConstants.{LF}
+use Rattle.setup_check.specs.ScriptLines.{shown_line}
 
 -- how many commands were performed once more at the start, its LF too
 abbrev pub again_line : ℕ → List ℕ
@@ -32,10 +33,10 @@ abbrev pub last_entry : ℕ → List Entry → Option Entry
 last_entry station [] = None
 last_entry station (e ∷ es) = or_before (last_entry station es) (own_entry station e)
 
--- the line of an entry that is a station's last, if there is one
+-- the line of an entry that is a station's last, if there is one: the first 200 bytes of the command and of the answer, with each control byte escaped
 abbrev pub last_said : ℕ → Option Entry → List ℕ
 last_said station None = []
-last_said station (Some e) = last_line station (text_of_command e.command) (line_of e.answer)
+last_said station (Some e) = last_line station (shown_line (text_of_command e.command)) (shown_line (line_of e.answer))
 
 -- the last entries of the first so many stations, each in a line
 abbrev pub last_lines : ℕ → List Entry → List ℕ
@@ -57,6 +58,11 @@ abbrev pub earlier_text : ℕ → List ℕ
 earlier_text zero = []
 earlier_text (suc n) = earlier_line (suc n)
 
+-- nor where the day that is open has a command of its own
+abbrev pub earlier_said : ℕ → List Entry → List ℕ
+earlier_said earlier [] = earlier_text earlier
+earlier_said earlier (e ∷ es) = []
+
 -- what is said of the log at a start
 abbrev pub start_text : ℕ → ℕ → List Entry → List ℕ
-start_text earlier stations journal = earlier_text earlier ++ again_text stations journal
+start_text earlier stations journal = earlier_said earlier journal ++ again_text stations journal

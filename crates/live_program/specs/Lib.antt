@@ -4,8 +4,11 @@ pub mod Consoles
 pub mod Endings
 pub mod Failures
 pub mod Greetings
+pub mod Heads
 pub mod Lives
+pub mod Marks
 pub mod NumberLists
 pub mod Openings
+pub mod OtherDays
 pub mod Reading
 pub mod Sayings

@@ -1,5 +1,5 @@
 -- The tables of a setup, opened for a day.
-use Rattle.std.specs.Prelude.{◌≡◌, ◌≢◌, ◌⊎◌, ℕ, Bool, true, false, List, [], ◌∷◌, ◌++◌, Option, Ok, Err, count_by, max}
+use Rattle.std.specs.Prelude.{◌≡◌, ◌≢◌, ◌⊎◌, ℕ, Bool, true, false, List, [], ◌∷◌, ◌++◌, Option, Some, Ok, Err, count_by, max}
 use Rattle.catalogue_core.specs.declared.opening.OpenFault.TheVariants.{NoMemory as NoMemoryToOpen}
 use Rattle.catalogue_core.specs.declared.source.TableSource.{TableSource}
 use Rattle.catalogue_core.specs.Opening.{Opening}
@@ -9,6 +9,9 @@ use Rattle.office_run.specs.declared.fault.ServeFault.{ServeFault}
 use Rattle.office_run.specs.declared.fault.ServeFault.TheVariants.{Setup, File, Refused, NoMemory}
 use Rattle.office_run.specs.Loading.{LoadAll, Read, nothing, IsFaultIn}
 use Rattle.office_run.specs.WholeRun.{IsReadFault, IsSaid}
+use Rattle.office_run.specs.FileSums.{paths_in}
+use Rattle.setup_files.specs.Noted.{AreNoted}
+use Rattle.journal_file.specs.declared.sum.FileSum.{FileSum}
 use Rattle.station_lines.specs.declared.setup.entry.SetupEntry.{SetupEntry}
 use Rattle.station_lines.specs.declared.setup.entry.SetupEntry.TheVariants.{Station}
 
@@ -44,6 +47,13 @@ pub record AreTablesOpened (files : Option (List NamedFile)) (setup : List ℕ) 
   pub loaded : LoadAll files (tables_in entries) nothing read
   pub opening : Opening reindex (seats_in entries) read.tables (Ok opened.tables)
   pub stations : opened.stations ≡ seats_in entries
+
+-- These files were read for that: the setup, and then those of its tables and indexes, in their order. Of each it is told which path it
+-- has, how many bytes, and their SHA-256.
+pub record AreFilesRead (files : Option (List NamedFile)) (setup : List ℕ) (read : List FileSum) : Type 0 where
+  pub entries : List SetupEntry
+  pub said : IsSaid files setup (Ok entries)
+  pub noted : AreNoted files (setup ∷ paths_in (tables_in entries)) (Some []) (Some read)
 
 -- why tables that were read are not opened for so many stations
 abbrev pub IsSeatFault : Bool → ℕ → List TableSource → ServeFault → Type 0

@@ -9,6 +9,7 @@ ghost use Rattle.live_program.specs.Consoles.{shown_of_numbers, shown_text, show
 
 use crate::number_lists::{NumberLists, Numbered};
 use crate::printing::print_line;
+use crate::prompt::Prompt;
 use crate::reading::{Origin, read_line};
 use arrayvec::ArrayVec;
 use disk_in_place::DiskInPlace;
@@ -28,12 +29,13 @@ impl Numbered for Typed {
     ghost numbered = { numbers_of_typed };
 }
 
-/// The lines of a reader, and a prompt before each where there is a writer for it.
+/// The lines of a reader, and a prompt before each where there is a writer for it. At a terminal this writer is told, too, what a person
+/// there wants to know between the lines.
 #[derive(Drop)]
 pub struct TypedLines<R: BufRead + Drop, P: Write + Drop> {
     origin: Origin,
     reader: R,
-    prompt: Option<P>,
+    prompt: Option<Prompt<P>>,
     // Whether a further whole line is in the reader's buffer.
     has_more: bool,
     // What was typed, whether it has ended, and whether a line could not be read, for contracts.
@@ -49,6 +51,14 @@ impl<R: BufRead + Drop, P: Write + Drop> Model for TypedLines<R, P> {
     ghost Value = { What R };
 
     ghost view = { λ k. record { origin = k.origin; reader = k.reader; typed = map typed_of_numbers k.typed; ended = k.ended; failed = k.failed } };
+}
+
+// What is told by a writer between the lines, where there is one.
+fn prompt_on<P: Write + Drop>(out: Option<P>) -> Option<Prompt<P>> {
+    match out {
+        Some(out) => Some(Prompt::new(out)),
+        None => None,
+    }
 }
 
 impl<R: BufRead + Drop, P: Write + Drop> TypedLines<R, P> {
@@ -85,7 +95,7 @@ impl<R: BufRead + Drop, P: Write + Drop> TypedLines<R, P> {
         TypedLines {
             origin,
             reader,
-            prompt,
+            prompt: prompt_on(prompt),
             has_more: false,
             typed: NumberLists::empty(),
             ended: false,
@@ -93,12 +103,26 @@ impl<R: BufRead + Drop, P: Write + Drop> TypedLines<R, P> {
         }
     }
 
-    // Prints the prompt of a station: its number, a point and a blank. A writer that takes no text changes nothing.
+    // Prints the prompt of a station. A writer that takes no text changes nothing.
     fn ask(&mut self, station: u32)
         ensures same { self.new ≡ self.old }
     {
         if let Some(prompt) = &mut self.prompt {
-            let _ = write!(prompt, "{station}. ");
+            prompt.ask(station);
+        }
+    }
+
+    // What a typed line is to the day: from a pipe or a file the line itself. At a terminal HELP is answered there.
+    fn heard(&mut self, alloc: Global, typed: Typed) -> Typed
+        ensures piped { self.old.origin ≡ Pipe → result ≡ typed }
+        ensures same { self.new ≡ self.old }
+    {
+        match self.origin {
+            Origin::Pipe => typed,
+            Origin::Terminal => match &mut self.prompt {
+                Some(prompt) => prompt.hear(alloc, typed),
+                None => typed,
+            },
         }
     }
 }
@@ -115,11 +139,12 @@ impl<R: BufRead + Drop, P: Write + Drop> Keyboard for TypedLines<R, P> {
 
     ghost text_left = { λ k. known_text k.origin (R.remaining k.reader) };
 
-    #[tactic(auto, using(crate::proofs::ConsoleLaws::typed_more))]
+    #[tactic(auto, using(crate::proofs::ConsoleLaws::typed_more, crate::proofs::ConsoleLaws::heard_next))]
     fn next_line(&mut self, alloc: Global, station: u32) -> Result<Option<Typed>, TypingFault> {
         self.ask(station);
         match read_line(alloc, &mut self.reader, self.origin, &mut self.has_more) {
             Ok(Some(typed)) => {
+                let typed = self.heard(alloc, typed);
                 self.typed.push(&typed);
                 Ok(Some(typed))
             }

@@ -2,9 +2,10 @@
 
 ghost use Rattle.std.specs.Prelude.{◌≡◌, OnOk};
 ghost use Rattle.std.specs.Io.KnownBytes.{Appends};
-ghost use Rattle.live_program.specs.Endings.{difference_reason, entry_reason};
+ghost use Rattle.live_program.specs.Endings.{difference_reason, entry_reason, other_reason, own_name_reason, unmarked_reason};
 
 use audit::{AuditFault, Difference};
+use byte_io::Bytes;
 use files_in_place::DiskFault;
 use live_day::{RunFault, StartFault};
 use live_log::LogFault;
@@ -22,12 +23,22 @@ pub enum LiveFailure {
     /// The file of the log's name is no log, or somebody has changed it: the entry of this number is the first that does not stand in it as
     /// it was put.
     NoLog(u64),
+    /// The file of this path is not the one with which the day of the log began.
+    OtherFile(Bytes),
+    /// The day of the log began with these files, but what it says of --reindex is not what is asked for now.
+    OtherReindex,
+    /// The file of the log's name is no log of this version, or somebody has changed its head.
+    OtherVersion,
     /// An entry of the log does not hold on the tables.
     Entry(AuditFault),
     /// The log took no more entries.
     Log(LogFault),
     /// The folder of the log failed, before the day began.
     Unstarted,
+    /// The folder of this path, from which the day reads, can't be given its mark, before the day began.
+    Unmarked(Bytes),
+    /// The file of this path, which the day reads, has the name of one of its own.
+    OwnName(Bytes),
     /// The answers can't be printed.
     Unshown,
     /// The lines can't be read.
@@ -115,9 +126,14 @@ impl Reason for LiveFailure {
         match self {
             LiveFailure::Serve(fault) => fault_status(fault),
             LiveFailure::NoLog(_) => 5,
+            LiveFailure::OtherFile(_) => 5,
+            LiveFailure::OtherReindex => 5,
+            LiveFailure::OtherVersion => 5,
             LiveFailure::Entry(_) => 5,
             LiveFailure::Log(_) => 4,
             LiveFailure::Unstarted => 4,
+            LiveFailure::Unmarked(_) => 4,
+            LiveFailure::OwnName(_) => 2,
             LiveFailure::Unshown => 4,
             LiveFailure::Unread => 2,
         }
@@ -132,11 +148,22 @@ impl Reason for LiveFailure {
                     "entry {number} of the log: STATIONS.LOG is no log of this version, or somebody has changed it"
                 )
             }
+            LiveFailure::OtherFile(path) => print_other(out, path),
+            LiveFailure::OtherReindex => {
+                out.write_all(
+                    b"the day of the log did not begin with --reindex as it is given here",
+                )
+            }
+            LiveFailure::OtherVersion => {
+                out.write_all(b"STATIONS.LOG is no log of this version, or somebody has changed it")
+            }
             LiveFailure::Entry(fault) => print_entry(out, fault),
             LiveFailure::Log(_) => {
                 out.write_all(b"cannot write the log: the next start goes on with it")
             }
             LiveFailure::Unstarted => out.write_all(b"cannot read or write the log"),
+            LiveFailure::Unmarked(folder) => print_unmarked(out, folder.as_slice()),
+            LiveFailure::OwnName(path) => print_own_name(out, path.as_slice()),
             LiveFailure::Unshown => {
                 out.write_all(b"cannot print the answers: the next start goes on with the log")
             }
@@ -149,6 +176,14 @@ impl Reason for LiveFailure {
     fn out_of_memory() -> LiveFailure {
         LiveFailure::Serve(ServeFault::NoMemory)
     }
+}
+
+// A file that is not the one with which the day of the log began.
+fn print_other<W: Write>(out: &mut W, path: &Bytes) -> io::Result<()>
+    ensures text { OnOk result (Appends (W.contents out.old) (W.contents out.new) (other_reason path.now)) }
+{
+    out.write_all(path.as_slice())?;
+    out.write_all(b" is not the file with which the day of the log began")
 }
 
 // Why an entry of the log does not hold.
@@ -178,4 +213,22 @@ fn print_difference<W: Write>(out: &mut W, difference: &Difference) -> io::Resul
         out,
         "entry {number} of the log: station {station} has another answer on these tables"
     )
+}
+
+// Prints that a folder can't be given the mark of a day.
+fn print_unmarked<W: Write>(out: &mut W, folder: &[u8]) -> io::Result<()>
+    ensures text { OnOk result (Appends (W.contents out.old) (W.contents out.new) (unmarked_reason folder.now)) }
+{
+    out.write_all(b"cannot put STATIONS.DAY into ")?;
+    out.write_all(folder)?;
+    Ok(())
+}
+
+// Prints that a file has the name of one of a day's own.
+fn print_own_name<W: Write>(out: &mut W, path: &[u8]) -> io::Result<()>
+    ensures text { OnOk result (Appends (W.contents out.old) (W.contents out.new) (own_name_reason path.now)) }
+{
+    out.write_all(path)?;
+    out.write_all(b": STATIONS.LOG and STATIONS.DAY are files of a day's own")?;
+    Ok(())
 }

@@ -2,10 +2,12 @@
 
 ghost use Rattle.std.specs.Prelude.{◌≡◌, option_map, IfOk, OnOk};
 ghost use Rattle.std.specs.Io.KnownBytes.{Appends};
-ghost use Rattle.live_program.specs.Greetings.{again_line, again_text, earlier_text, last_entry, last_line, last_lines, last_said, or_before, own_entry, start_text as text_of_start, station_named};
+ghost use Rattle.setup_check.specs.ScriptLines.{shown_line};
+ghost use Rattle.live_program.specs.Greetings.{again_line, again_text, earlier_said, earlier_text, last_entry, last_line, last_lines, last_said, or_before, own_entry, start_text as text_of_start, station_named};
 
 use byte_io::Bytes;
 use catalogue_core::{Catalogue, Entry};
+use setup_check::append_shown;
 use station_lines::{answer_line, command_line};
 use std::alloc::{AllocError, Global};
 use std::io;
@@ -64,6 +66,15 @@ fn last_of(journal: &[Entry], station: u32) -> Option<&Entry>
     last
 }
 
+// A line as it is told: its first 200 bytes, with no control byte of a cell.
+fn shown(alloc: Global, line: &Bytes) -> Result<Bytes, AllocError>
+    ensures value { IfOk result (λ text. text ≡ shown_line line.now) }
+{
+    let mut text = Vec::new(alloc);
+    append_shown(&mut text, line.as_slice())?;
+    Ok(Bytes::from_vec(text))
+}
+
 // Says which command of a station was performed last, and what it was answered. `Ok` has what printing has answered.
 #[tactic(auto, using(crate::proofs::GreetingLaws::appends_none))]
 fn tell_last<W: Write>(
@@ -78,8 +89,8 @@ fn tell_last<W: Write>(
     let Some(entry) = last_of(catalogue.journal(), station) else {
         return Ok(Ok(()));
     };
-    let command = command_line(alloc, &entry.command)?;
-    let answer = answer_line(alloc, &entry.answer)?;
+    let command = shown(alloc, &command_line(alloc, &entry.command)?)?;
+    let answer = shown(alloc, &answer_line(alloc, &entry.answer)?)?;
     Ok(print_last(out, station, &command, &answer))
 }
 
@@ -139,8 +150,17 @@ fn tell_earlier<W: Write>(out: &mut W, earlier: u64) -> io::Result<()>
     )
 }
 
-/// What there is to say of the log at a start: how many commands the day had that was closed before, and what [`tell_again`] prints. An
-/// error where memory is refused.
+// How many commands of the day that was closed before there are to tell: none where the day that is open has one of its own.
+#[tactic(auto, using(crate::proofs::GreetingLaws::earlier_yet, crate::proofs::GreetingLaws::earlier_over))]
+fn earlier_to_tell(catalogue: &Catalogue, earlier: u64) -> u64
+    ensures value { earlier_text result ≡ earlier_said earlier catalogue.now.journal }
+{
+    let count = catalogue.journal().len() as u64;
+    if count == 0 { earlier } else { 0 }
+}
+
+/// What there is to say of the log at a start: how many commands the day had that was closed before, while the one that is open has none,
+/// and what [`tell_again`] prints. An error where memory is refused.
 #[tactic(auto, using(crate::proofs::GreetingLaws::start_said))]
 pub(crate) fn start_text(
     alloc: Global,
@@ -150,7 +170,7 @@ pub(crate) fn start_text(
     ensures value { IfOk result (λ text. text ≡ text_of_start earlier catalogue.now.opened.stations catalogue.now.journal) }
 {
     let mut text = Vec::new(alloc);
-    match tell_earlier(&mut text, earlier) {
+    match tell_earlier(&mut text, earlier_to_tell(catalogue, earlier)) {
         Ok(()) => {}
         Err(_) => return Err(AllocError),
     }

@@ -2,16 +2,14 @@
 
 ghost use Rattle.std.specs.Prelude.{◌≡◌, ◌≤◌, [], Ok, IfErr, IfOk, OnOk};
 ghost use Rattle.catalogue_core.specs.Opening.{Opening};
-ghost use Rattle.setup_files.specs.EntryFiles.{AreEntriesRead};
 ghost use Rattle.station_lines.specs.Setup.{IndexesFollowTables};
-ghost use Rattle.live_program.specs.Openings.{names_station, seats_in, tables_in, with_table, AreTablesOpened, AreTablesUnopened, IsSeatFault};
+ghost use Rattle.live_program.specs.Openings.{names_station, seats_in, tables_in, with_table, AreFilesRead, AreTablesOpened, AreTablesUnopened, IsSeatFault};
 
 use byte_io::Bytes;
 use catalogue_core::{Catalogue, OpenFault, TableSource};
 use folders::Source;
-use journal_file::ReadSums;
-use office_run::{Loaded, ServeFault, read_setup};
-use setup_files::{EntryContent, EntryFault, read_entry};
+use journal_file::{FileSum, ReadSums};
+use office_run::{ServeFault, load_entries, load_setup};
 use station_lines::SetupEntry;
 use std::alloc::{AllocError, Global};
 
@@ -58,22 +56,6 @@ fn table_entries(alloc: Global, entries: Vec<SetupEntry>) -> Result<Vec<SetupEnt
     Ok(tables)
 }
 
-// Reads the files of entries, one after another.
-fn read_files<S: Source>(
-    alloc: Global,
-    source: &mut S,
-    entries: &[SetupEntry],
-) -> Result<Vec<Result<EntryContent, EntryFault>>, AllocError>
-    ensures read { IfOk result (λ reads. AreEntriesRead (S.files source.old) entries.now reads.items) }
-    ensures kept { S.files source.new ≡ S.files source.old }
-{
-    let mut reads = Vec::new(alloc);
-    for entry in entries {
-        reads.push(read_entry(alloc, source, entry, &mut ReadSums::unwanted(alloc))?)?;
-    }
-    Ok(reads)
-}
-
 // Opens tables for so many stations.
 fn open_for(
     alloc: Global,
@@ -92,24 +74,39 @@ fn open_for(
     Ok(Catalogue::open(alloc, tables, stations, reindex)?)
 }
 
+/// The tables of a setup, opened for its stations, and what was read for that.
+#[derive(Drop)]
+pub struct OpenedTables {
+    /// The tables, with an empty journal.
+    pub catalogue: Catalogue,
+    /// The setup, and then the files of its tables and indexes, in their order.
+    pub read: Vec<FileSum>,
+}
+
 /// Opens the tables and indexes that the setup of a path names, as `office_run` opens them, for as many stations as it names, and one at
 /// least. The stations' scripts are not read. The faults come in the order of [`ServeFault`].
+#[tactic(auto, using(crate::proofs::OpeningLaws::all_noted))]
 pub fn open_tables<S: Source>(
     alloc: Global,
     setup: &Bytes,
     reindex: bool,
     source: &mut S,
-) -> Result<Catalogue, ServeFault>
-    ensures opened { IfOk result (λ catalogue. AreTablesOpened (S.files source.old) setup.now reindex catalogue.opened) }
+) -> Result<OpenedTables, ServeFault>
+    ensures opened { IfOk result (λ opened. AreTablesOpened (S.files source.old) setup.now reindex opened.catalogue.opened) }
+    ensures read { IfOk result (λ opened. AreFilesRead (S.files source.old) setup.now opened.read.items) }
     ensures fault { IfErr result (AreTablesUnopened (S.files source.old) setup.now reindex) }
-    ensures empty { IfOk result (λ catalogue. catalogue.journal ≡ []) }
-    ensures stations { IfOk result (λ catalogue. 1 ≤ catalogue.opened.stations) }
+    ensures empty { IfOk result (λ opened. opened.catalogue.journal ≡ []) }
+    ensures stations { IfOk result (λ opened. 1 ≤ opened.catalogue.opened.stations) }
     ensures kept { S.files source.new ≡ S.files source.old }
 {
-    let entries = read_setup(alloc, source, setup)?;
+    let mut sums = ReadSums::wanted(alloc);
+    let entries = load_setup(alloc, source, setup, &mut sums)?;
     let seats = seat_count(&entries);
     let tables = table_entries(alloc, entries)?;
-    let reads = read_files(alloc, source, &tables)?;
-    let loaded = Loaded::from_reads(alloc, &tables, reads)?;
-    Ok(open_for(alloc, loaded.tables, seats, reindex)?)
+    let loaded = load_entries(alloc, source, &tables, &mut sums)?;
+    let catalogue = open_for(alloc, loaded.tables, seats, reindex)?;
+    Ok(OpenedTables {
+        catalogue,
+        read: sums.into_sums(),
+    })
 }

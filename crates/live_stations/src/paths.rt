@@ -2,7 +2,7 @@
 
 use crate::terminals::Terminals;
 use byte_io::Bytes;
-use live_program::TypedLines;
+use live_program::{ShownBytes, TypedLines};
 use std::alloc::Global;
 use std::fs::{File, OpenOptions};
 use std::io::{BufReader, IsTerminal};
@@ -47,7 +47,7 @@ impl<'a, R: Files<File = File>> Terminals for StationPaths<'a, R> {
 
     type Keyboard = TypedLines<BufReader<File>, File>;
 
-    type Screen = File;
+    type Screen = ShownBytes<File>;
 
     fn open_keyboard(
         &self,
@@ -65,7 +65,7 @@ impl<'a, R: Files<File = File>> Terminals for StationPaths<'a, R> {
         }
     }
 
-    fn open_screen(&self, alloc: Global, station: u32) -> Option<File> {
+    fn open_screen(&self, alloc: Global, station: u32) -> Option<ShownBytes<File>> {
         let path = self.path(station)?.as_slice();
         let mut out = Vec::new(alloc);
         out.reserve(path.len() + OUT.len()).ok()?;
@@ -73,6 +73,8 @@ impl<'a, R: Files<File = File>> Terminals for StationPaths<'a, R> {
         out.extend_from_slice(OUT).ok()?;
         let path = str::from_utf8(out.as_slice()).ok()?;
         // What is there is neither made nor cut.
-        OpenOptions::new().append(true).open(self.rt, path).ok()
+        let file = OpenOptions::new().append(true).open(self.rt, path).ok()?;
+        let is_terminal = file.is_terminal();
+        Some(ShownBytes::new(file, is_terminal))
     }
 }

@@ -23,7 +23,7 @@ const ANSWERS: &[u8] = b"OK\nOK\nOK\nREFUSED 5 NotLocked\n";
 const ANSWERS_OF_ONE: &[u8] = b"OK\nOK\nREFUSED 5 NotLocked\n";
 
 // How many calls of the disk a start makes on an empty folder, and a group of the log; and more than such a day makes.
-const CALLS_OF_START: u64 = 22;
+const CALLS_OF_START: u64 = 23;
 
 const CALLS_OF_GROUP: u64 = 4;
 
@@ -188,9 +188,13 @@ fn a_group_counts_whole_or_not_at_all(rt: HostRuntime) -> Result<(), Fail> {
     Ok(())
 }
 
-// The log of two entries, and of a part of a group.
+// The log of two entries, and of a part of a group, behind its head.
 const TORN: &[u8] =
-    b"+8bec0ec40ff649fe 1 5 2 USE T OK\n+8c8236226da7c9ac 1 4 2 GO 2 OK\n-6d99f71356e8ec2c 1 6 2 DE";
+    b"read 5 38 79a171ea0a9cba85847a9fcb499b192d5f0d9ab4ae834cd3db166afd1a93893f A.SET\n\
+      read 5 88 7f2ba3d33b7041bc26f3fac6162fba6e976cc7f5b32ab4d63097eda13b8d2efa T.DBF\n\
+      reindex no\n\
+      earlier 0 commands\n\
+      +8bec0ec40ff649fe 1 5 2 USE T OK\n+8c8236226da7c9ac 1 4 2 GO 2 OK\n-6d99f71356e8ec2c 1 6 2 DE";
 
 // A folder with that log of which only so many calls are done.
 fn torn_folder(alloc: Global, calls: u64) -> Result<MemoryDisk, AllocError>
@@ -215,6 +219,43 @@ fn keeps_both(alloc: Global, calls: u64) -> Result<bool, Fail> {
 fn a_start_that_crashes_loses_no_entry(rt: HostRuntime) -> Result<(), Fail> {
     for calls in 0..CALLS {
         assert!(rt; keeps_both(rt.alloc(), calls)?);
+    }
+    Ok(())
+}
+
+// The log of a day that was closed.
+const CLOSED: &[u8] = b"-8 commands\n";
+
+// A folder with that log of which only so many calls are done.
+fn closed_folder(alloc: Global, calls: u64) -> Result<MemoryDisk, AllocError>
+    ensures whole { IfOk result (λ disk. (n : Name) → is_reserved n ≡ false → IsWhole disk.calls n) }
+{
+    let mut disk = MemoryDisk::new(alloc).with_file(LOG_NAME, CLOSED)?;
+    disk.allow(calls);
+    Ok(disk)
+}
+
+// Whether a day of no line ends with that log, too.
+fn ends_with_the_number(alloc: Global, disk: MemoryDisk) -> Result<bool, Fail>
+    requires whole { (n : Name) → is_reserved n ≡ false → IsWhole disk.calls n }
+{
+    let typed: &[u8] = b"";
+    let shown: Vec<u8> = Vec::new(alloc);
+    let InPlace { ended, disk } = live_with(alloc, disk, typed, shown)?;
+    let mut disk = disk;
+    Ok(ended.is_ok() && has_file(alloc, &mut disk, LOG_NAME, CLOSED)?)
+}
+
+// Whether a day of no line, whose disk fails after so many calls and crashes, leaves the number of the day before to the next start.
+fn keeps_the_number(alloc: Global, calls: u64) -> Result<bool, Fail> {
+    let day = live(alloc, closed_folder(alloc, calls)?, b"", 1)?;
+    ends_with_the_number(alloc, left_by(&day.disk, choices_of(calls))?)
+}
+
+#[test]
+fn a_start_that_crashes_keeps_the_number_of_the_day_before(rt: HostRuntime) -> Result<(), Fail> {
+    for calls in 0..CALLS {
+        assert!(rt; keeps_the_number(rt.alloc(), calls)?);
     }
     Ok(())
 }

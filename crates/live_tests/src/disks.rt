@@ -3,10 +3,12 @@
 use crate::clerks::{Clerk, Then};
 use crate::living::{Left, LeftDay, live_at};
 use crate::samples::{SETUP, empty_folder, source};
+use byte_io::Bytes;
+use folders::LoadFault;
 use live_log::LogFault;
-use live_program::{LiveFailure, Places};
+use live_program::{LOG_NAME, LiveFailure, Places};
 use memory_disk::MemoryDisk;
-use program_frame::{Ending, Failure, PlaceFault};
+use program_frame::{Beside, Ending, Failure, PlaceFault};
 use std::alloc::Global;
 use std::fs::File;
 use std::rt::{Files, Runtime};
@@ -16,8 +18,8 @@ use std::thread::Threads;
 
 // A system with a folder in memory, whose disk does so many calls, and then all fail.
 #[derive(Drop)]
-struct FailingPlaces {
-    calls: u64,
+pub(crate) struct FailingPlaces {
+    pub(crate) calls: u64,
 }
 
 impl Places for FailingPlaces {
@@ -25,8 +27,30 @@ impl Places for FailingPlaces {
 
     ghost opens = { λ _ _ _. Unit {0} };
 
+    ghost names_log = { λ _ _ _. Unit {0} };
+
     fn open(&self, alloc: Global, _path: &str) -> Result<Option<MemoryDisk>, PlaceFault> {
         Ok(Some(empty_folder(alloc, self.calls)))
+    }
+
+    fn log_path(&self, alloc: Global, _folder: &str) -> Result<Bytes, PlaceFault> {
+        Ok(Bytes::from_slice(alloc, LOG_NAME)?)
+    }
+}
+
+// No file lies beside those that a day reads.
+impl Beside for FailingPlaces {
+    ghost answers = { λ _ _ _. Unit {0} };
+
+    ghost lies = { λ _ _ _. Unit {0} };
+
+    fn read_if_there(&self, _alloc: Global, _path: &[u8]) -> Result<Option<Bytes>, LoadFault> {
+        Ok(None)
+    }
+
+    // All that a day reads lies in the folder of its log.
+    fn lies_in(&self, _alloc: Global, _path: &[u8], _folder: &str) -> Result<bool, LoadFault> {
+        Ok(true)
     }
 }
 

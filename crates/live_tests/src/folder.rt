@@ -1,7 +1,8 @@
 //! Days of one keyboard in a folder of the system.
 
+use crate::own_places::OwnPlaces;
 use crate::samples::{SETUP, is_text, make_folder, read_file, source};
-use live_program::{HostPlaces, LiveFailure, Lived, PrintedAnswers, TypedLines, run_program};
+use live_program::{LiveFailure, Lived, PrintedAnswers, TypedLines, run_program};
 use program_frame::{Ending, Failure};
 use std::fs::{self, File};
 use std::io::{self, Write};
@@ -41,7 +42,7 @@ fn live_in<R: Runtime + Files<File = File> + AllocGlobal + Threads, W: Write + D
     ];
     let ended = run_program(
         alloc,
-        &HostPlaces::new(rt),
+        &OwnPlaces::new(rt),
         &mut files,
         &mut TypedLines::new(typed, prompt),
         &mut PrintedAnswers::new(out),
@@ -77,8 +78,13 @@ fn goes_on<R: Runtime + Files<File = File> + AllocGlobal + Threads>(rt: &R) -> R
     )
 }
 
-// The log of a day's two commands. The sums are those of `sha256sum`.
-const PUT: &[u8] = b"+8bec0ec40ff649fe 1 5 2 USE T OK\n+8c8236226da7c9ac 1 4 2 GO 2 OK\n-";
+// The log of a day's two commands, behind its head. The sums are those of `sha256sum`.
+const PUT: &[u8] =
+    b"read 5 38 79a171ea0a9cba85847a9fcb499b192d5f0d9ab4ae834cd3db166afd1a93893f A.SET\n\
+      read 5 88 7f2ba3d33b7041bc26f3fac6162fba6e976cc7f5b32ab4d63097eda13b8d2efa T.DBF\n\
+      reindex no\n\
+      earlier 0 commands\n\
+      +8bec0ec40ff649fe 1 5 2 USE T OK\n+8c8236226da7c9ac 1 4 2 GO 2 OK\n-";
 
 // Whether the folder's log is this one.
 fn has_log<R: Runtime + Files<File = File> + AllocGlobal>(

@@ -7,6 +7,8 @@
 #![tactic(auto)]
 
 #[cfg(test)]
+mod at_terminal;
+#[cfg(test)]
 mod clerks;
 #[cfg(test)]
 mod crashes;
@@ -24,6 +26,8 @@ mod living;
 mod many;
 #[cfg(test)]
 mod one_keyboard;
+#[cfg(test)]
+mod own_places;
 #[cfg(test)]
 mod paths;
 #[cfg(test)]

@@ -1,9 +1,10 @@
 //! Days of clerks in a folder of the system, and what they leave.
 
 use crate::clerks::{Clerk, Clerks, Sheet, counts_of};
+use crate::own_places::OwnPlaces;
 use crate::samples::{SETUP, is_text, make_folder, read_file, source, words_of};
 use folders::Source;
-use live_program::{HostPlaces, LiveFailure, Lived, Places};
+use live_program::{LiveFailure, Lived, Places};
 use live_stations::{Asked, LinesEnd, StationLeft, StationsDay, live_stations, tell_day};
 use program_frame::{Ending, Failure};
 use std::fs;
@@ -182,7 +183,7 @@ pub(crate) fn live<R: Runtime + Files<File = File> + AllocGlobal + Threads + Wai
 ) -> Result<LeftDay, Fail> {
     make_folder(rt, folder)?;
     let source = source(rt.alloc(), SETUP, u64::MAX)?;
-    let day = live_at(rt, &HostPlaces::new(rt), source, folder, clerks)?;
+    let day = live_at(rt, &OwnPlaces::new(rt), source, folder, clerks)?;
     fs::remove_dir_all(rt, folder)?;
     Ok(day)
 }

@@ -4,6 +4,7 @@ ghost use Rattle.std.specs.Prelude.{◌≡◌, false};
 ghost use Rattle.files_in_place.specs.Folder.{Name, is_reserved};
 ghost use Rattle.memory_disk.specs.Outcomes.{IsWhole};
 
+use crate::disks::FailingPlaces;
 use crate::samples::{SETUP, source};
 use dbf_fields::day_of;
 use live_day::{Keyboard, Typed};
@@ -49,6 +50,7 @@ pub(crate) fn live_with<R: BufRead + Drop, W: Write + Drop>(
         alloc,
         &options,
         &mut files,
+        &FailingPlaces { calls: 0 },
         disk,
         &mut keyboard,
         &mut screen,

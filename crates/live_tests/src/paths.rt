@@ -1,8 +1,8 @@
 //! Stations at paths of the system.
 
+use crate::own_places::OwnPlaces;
 use crate::samples::{SETUP, is_text, make_folder, read_file, source, words_of};
 use byte_io::Bytes;
-use live_program::HostPlaces;
 use live_stations::{Asked, LinesEnd, StationLeft, StationPaths, Terminals, live_stations};
 use std::alloc::{AllocError, Global};
 use std::fs;
@@ -115,7 +115,7 @@ fn ends_so<
     let out: Vec<u8> = Vec::new(alloc);
     let err: Vec<u8> = Vec::new(alloc);
     let asked = Asked {
-        places: &HostPlaces::new(rt),
+        places: &OwnPlaces::new(rt),
         source,
         out,
         err,

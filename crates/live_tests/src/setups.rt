@@ -2,10 +2,10 @@
 
 use crate::clerks::{Clerk, Then};
 use crate::living::{Left, LeftDay, live_at};
+use crate::own_places::OwnPlaces;
 use crate::samples::{SETUP, make_folder, source};
 use byte_io::Bytes;
 use folders::{MemorySource, Source};
-use live_program::HostPlaces;
 use live_stations::{LinesEnd, LiveSetup, WithSetup, live_setup};
 use office_run::{FileFault, ServeFault};
 use std::alloc::Global;
@@ -126,7 +126,7 @@ fn live_in<R: Runtime + Files<File = File> + AllocGlobal + Threads + Wait + Sync
     folder: &str,
 ) -> Result<LeftDay, Fail> {
     let clerk = Clerk::new(&[(1, 0, b"USE T\n? RECNO()\n")], Then::Ends);
-    live_at(rt, &HostPlaces::new(rt), source, folder, &[clerk, clerk])
+    live_at(rt, &OwnPlaces::new(rt), source, folder, &[clerk, clerk])
 }
 
 // How many commands a day has whose setup was read before it, and of whose source so many loads are done in all.
@@ -178,11 +178,15 @@ fn what_is_refused_is_told_before_a_station_is_opened(rt: HostRuntime) -> Result
     let setup: (&[u8], u8, &str) = (
         b"STATION one\nSTATION two\nSTATON three\n",
         1,
-        "station_prompt: setup line 3 is bad\n",
+        "station_prompt: setup line 3 is bad: STATON is none of TABLE, INDEX, STATION\n",
     );
     assert!(rt; is_refused(&rt, setup, "refused_setup")?);
     fs::remove_dir_all(&rt, "refused_setup")?;
-    let folder: (&[u8], u8, &str) = (SETUP, 4, "station_prompt: cannot open the folder\n");
+    let folder: (&[u8], u8, &str) = (
+        SETUP,
+        4,
+        "station_prompt: cannot open the folder of --out: is it there, and may it be opened?\n",
+    );
     assert!(rt; is_refused(&rt, folder, "no_stations")?);
     Ok(())
 }

@@ -9,7 +9,7 @@
 
 use folders::{DiskSource, Source};
 use live_program::{
-    HostPlaces, LiveFailure, Lived, PROGRAM, PrintedAnswers, TypedLines, run_program,
+    HostPlaces, LiveFailure, Lived, PROGRAM, PrintedAnswers, ShownBytes, TypedLines, run_program,
 };
 use live_stations::{
     Asked, LiveSetup, StationPaths, StationsDay, Terminals, live_setup, live_stations, tell_day,
@@ -114,7 +114,8 @@ fn run_live<
     Ok(live_stations(rt, rt.alloc(), stations, count, asked)?)
 }
 
-// The lines of standard input. There is a prompt where they are typed at a terminal and answers go to one.
+// The lines of standard input. Where they are typed at a terminal and answers go to one, there is a prompt, and what a person there wants
+// to know.
 fn typed_lines<R: BufRead + Drop>(reader: R, streams: Streams) -> TypedLines<R, Stdout> {
     if !streams.input.is_terminal() {
         return TypedLines::new(reader, None);
@@ -138,7 +139,8 @@ fn run_words<R: Runtime + Files<File = File> + AllocGlobal + Threads, S: Source 
     let mut source = source;
     let mut err = streams.err;
     let mut keyboard = typed_lines(BufReader::new(alloc, rt.reader())?, streams);
-    let mut screen = PrintedAnswers::new(streams.out);
+    let is_terminal = streams.out.is_terminal();
+    let mut screen = PrintedAnswers::new(ShownBytes::new(streams.out, is_terminal));
     run_program(
         alloc,
         &HostPlaces::new(rt),
