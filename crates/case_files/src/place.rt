@@ -194,7 +194,8 @@ impl Place {
         Ok(())
     }
 
-    /// How the folder of a path is opened; `None` where nothing has the path.
+    /// How the folder of a path is opened; `None` where nothing has the path. A folder in which a file lies is there, also where it was not
+    /// made before.
     pub(crate) fn opening(&self, front: &[u8]) -> Option<Opening> {
         if front.is_empty() {
             return Some(Opening::Free);
@@ -205,8 +206,25 @@ impl Place {
         let made = folders
             .iter()
             .rev()
-            .find(|folder| folder.front.as_slice() == front)?;
-        Some(made.opening)
+            .find(|folder| folder.front.as_slice() == front);
+        if let Some(made) = made {
+            return Some(made.opening);
+        }
+        if self.has_files_in(front) {
+            Some(Opening::Free)
+        } else {
+            None
+        }
+    }
+
+    // Whether a file lies in a folder, whose paths begin so, or in one below it.
+    fn has_files_in(&self, front: &[u8]) -> bool {
+        match self.files.try_borrow() {
+            Ok(files) => files
+                .iter()
+                .any(|file| file.path.as_slice().starts_with(front)),
+            Err(_) => false,
+        }
     }
 
     /// How the paths of the files of a folder begin.

@@ -8,8 +8,8 @@ use crate::place_disk::PlaceDisk;
 use byte_io::{Bytes, Failures};
 use files_in_place::{LockFault, is_reserved, recover};
 use folders::{LoadFault, MemorySource, NamedFile, Source, file_name, folder_of};
-use live_program::Places;
-use program_frame::{PlaceFault, System};
+use live_program::{LOG_NAME, Places};
+use program_frame::{Beside, PlaceFault, System};
 use std::alloc::{AllocError, Global};
 
 /// The files of a case, as programs read them.
@@ -126,11 +126,19 @@ impl<'a> System for PlaceSystem<'a> {
 
     ghost opens = { λ _ _ _. Unit {0} };
 
-    ghost answers = { λ _ _ _. Unit {0} };
-
     fn open(&self, _alloc: Global, path: &str) -> Result<Option<PlaceDisk<'a>>, PlaceFault> {
         Ok(self.open_folder(path.as_bytes())?)
     }
+
+    fn is_there(&self, path: &[u8]) -> bool {
+        self.place.has(path)
+    }
+}
+
+impl<'a> Beside for PlaceSystem<'a> {
+    ghost answers = { λ _ _ _. Unit {0} };
+
+    ghost lies = { λ _ _ _. Unit {0} };
 
     fn read_if_there(&self, alloc: Global, path: &[u8]) -> Result<Option<Bytes>, LoadFault> {
         if !self.place.has(path) {
@@ -140,13 +148,10 @@ impl<'a> System for PlaceSystem<'a> {
         Ok(Some(source.load(alloc, path)?))
     }
 
-    fn lies_in(&self, path: &[u8], folder: &str) -> bool {
-        let own = self.place.front(folder_of(path));
-        let other = self.place.front(folder.as_bytes());
-        match (own, other) {
-            (Ok(own), Ok(other)) => own.as_slice() == other.as_slice(),
-            _ => false,
-        }
+    fn lies_in(&self, _alloc: Global, path: &[u8], folder: &str) -> Result<bool, LoadFault> {
+        let own = self.place.front(folder_of(path))?;
+        let other = self.place.front(folder.as_bytes())?;
+        Ok(own.as_slice() == other.as_slice())
     }
 }
 
@@ -155,7 +160,16 @@ impl<'a> Places for PlaceSystem<'a> {
 
     ghost opens = { λ _ _ _. Unit {0} };
 
+    ghost names_log = { λ _ _ _. Unit {0} };
+
     fn open(&self, _alloc: Global, path: &str) -> Result<Option<PlaceDisk<'a>>, PlaceFault> {
         Ok(self.open_folder(path.as_bytes())?)
+    }
+
+    /// A case has one root: the path from there is the whole one.
+    fn log_path(&self, _alloc: Global, folder: &str) -> Result<Bytes, PlaceFault> {
+        let mut log = self.place.front(folder.as_bytes())?;
+        log.extend_from_slice(LOG_NAME)?;
+        Ok(Bytes::from_vec(log))
     }
 }

@@ -107,16 +107,17 @@ impl<'a, 'b> Call<'a, 'b> {
     fn use_tool(&self, alloc: Global, place: &Place, outcome: &mut Outcome) -> ExitCode {
         let mut source = PlaceSource::new(place);
         let mut sink = StreamSink::new(Printed::new(&mut outcome.out, self.out));
+        let mut err = Printed::new(&mut outcome.err, self.err);
         let ended = run_words(
             alloc,
             &mut source,
             &mut sink,
             &PlaceSystem::new(place),
+            &mut err,
             self.words,
         );
         drop(sink);
         let mut out = Printed::new(&mut outcome.out, self.out);
-        let mut err = Printed::new(&mut outcome.err, self.err);
         tell_end(&mut out, &mut err, &ended).status
     }
 

@@ -172,7 +172,12 @@ fn open_path(
 ) -> Result<Result<Catalogue, ServeFault>, AllocError> {
     let setup = Bytes::from_slice(alloc, path)?;
     let mut source = PlaceSource::new(place);
-    Ok(open_tables(alloc, &setup, reindex == REINDEX, &mut source))
+    Ok(
+        match open_tables(alloc, &setup, reindex == REINDEX, &mut source) {
+            Ok(opened) => Ok(opened.catalogue),
+            Err(fault) => Err(fault),
+        },
+    )
 }
 
 /// Opens the tables of a setup: `O.SET`, or `O.SET reindex`.
@@ -193,7 +198,10 @@ pub(crate) fn said_of(
     match opened {
         Ok(_) => Vec::from_slice(alloc, b"OK"),
         Err(ServeFault::Refused(fault)) => Ok(format!(in alloc; "{fault:?}")?.into_bytes()),
-        Err(ServeFault::Setup(line)) => Ok(format!(in alloc; "line {line} is bad")?.into_bytes()),
+        Err(ServeFault::Setup(bad)) => {
+            let line = bad.number;
+            Ok(format!(in alloc; "line {line} is bad")?.into_bytes())
+        }
         Err(_) => Vec::from_slice(alloc, b"a file is refused"),
     }
 }
