@@ -35,13 +35,14 @@ ALONE = {"FAULT_LINES": 1}
 # ---- what the program says on standard error: at each start that has read the setup, which files stay as they are beside the new ones, and then these.
 KEPT = "".join(f"{path} stays as it is where new files go into its folder: the new {kind} is {name}\n" for path, kind, name in (
     (office.TABLE, "table", "STOCK.DBF"), (office.INDEX, "index", "BYCODE.NDX")))
+# And at a terminal before the first line.
+GREETING = "You are station 1. HELP shows the commands, QUIT or Ctrl-D closes the day.\n"
 UNREAD_LINES = f"{NAME}: cannot read the lines: the next start goes on with the log\n"
 UNWRITTEN_LOG = f"{NAME}: cannot write the log: the next start goes on with it\n"
 UNPRINTED_ANSWERS = f"{NAME}: cannot print the answers: the next start goes on with the log\n"
 UNSTARTED = f"{NAME}: cannot read or write the log\n"
-# Of a file of another at the log's name: that it is no log, or that the log did not begin with this setup.
-NO_LOG = (f"{NAME}: entry 1 of the log: {LOG} is no log of this version, or somebody has changed it\n",
-          f"{NAME}: OFFICE.SET is not the file with which the day of the log began\n")
+# Of a file of another at the log's name.
+NO_LOG = f"{NAME}: {LOG} is no log of this version, or somebody has changed it\n"
 
 
 def own(line):
@@ -54,8 +55,9 @@ DAY_OPEN = "station_server: a day is open in the folder: station_prompt goes on 
 UNPRINTED, UNFINISHED, IN_USE = own(office.UNPRINTED), own(office.UNFINISHED), own(office.IN_USE)
 
 Entry = collections.namedtuple("Entry", "station command answer")
-# What the log of an open day begins with: the files that were read, and whether the indexes were made anew, as in a journal.
-HEAD = re.compile(rb"(?:read [0-9]+ [0-9]+ [0-9a-f]{64} [^\n]*\n)*reindex (?:yes|no)\n")
+# What the log of an open day begins with: the files that were read, and whether the indexes were made anew, as in a journal; and the day that
+# was closed before.
+HEAD = re.compile(rb"(?:read [0-9]+ [0-9]+ [0-9a-f]{64} [^\n]*\n)+reindex (?:yes|no)\nearlier [0-9]+ commands\n")
 
 
 def entry_at(text, start):
@@ -281,7 +283,8 @@ class Days:
     def terminal(self):
         """A terminal has a prompt before each line, and is closed by the end of input."""
         folder = self.trial.folder(self.old)
-        steps = [(KEPT.replace("\n", "\r\n").encode() + b"1. ", b"use ledger exclusive\n"), (b"use ledger exclusive\r\nOK\r\n1. ", b"STATION 2\n"), (b"STATION 2\r\n2. ", b"USE LEDGER\n")]
+        begin = (KEPT + GREETING).replace("\n", "\r\n").encode() + b"1. "
+        steps = [(begin, b"use ledger exclusive\n"), (b"use ledger exclusive\r\nOK\r\n1. ", b"STATION 2\n"), (b"STATION 2\r\n2. ", b"USE LEDGER\n")]
         steps += [(b"USE LEDGER\r\nREFUSED 3 TableInUse\r\n2. ", b"STATION 6\n"), (b"STATION 6\r\nNO SUCH STATION\r\n2. ", b"\x04")]
         steps += [(b"station_prompt: 2 commands\r\n", b"")]
         master, slave = pty.openpty()
@@ -507,7 +510,7 @@ class Days:
         for foreign in (b"Dear Anna,\n", b"x", b"\0" * 4096, self.old["STAFF.DBF"]):
             files = self.old | {LOG: foreign}
             ended = self.day_of(files, b"USE STAFF\n")
-            if (ended.status, ended.files) != (5, files) or ended.told not in NO_LOG:
+            if (ended.status, ended.files) != (5, files) or ended.told != NO_LOG:
                 wrong = wrong or ended
         return self.told("a file of another at the log's name, which a day refuses", wrong is None, wrong)
 

@@ -629,8 +629,8 @@ class Stations:
                 seed = f"{self.seed} {name} {day}"
                 bad += self.tell(f"a {name} day, seed {seed}", getattr(self, name)(random.Random(seed)))
         setup = files()[SETUP]
-        bad += self.tell("a bad line, nobody there", self.refused(setup + b"STATON 6\n", 1, f"{NAME}: setup line 12 is bad\n"))
-        bad += self.tell("a table that isn't there, nobody there", self.refused(b"TABLE U U.DBF\n" + setup, 2, f"{NAME}: U.DBF: cannot read\n"))
+        bad += self.tell("a bad line, nobody there", self.refused(setup + b"STATON 6\n", 1, f"{NAME}: setup line 12 is bad: STATON is none of TABLE, INDEX, STATION\n"))
+        bad += self.tell("a table that isn't there, nobody there", self.refused(b"TABLE U U.DBF\n" + setup, 2, f"{NAME}: U.DBF: cannot read: is it there, a file, and may it be read?\n"))
         bad += self.tell("pipes that aren't there", self.missing(random.Random(self.seed)))
         bad += self.tell("a terminal", self.terminal(random.Random(self.seed)))
         bad += self.tell("the words of the keyboard", self.words(random.Random(self.seed)))

@@ -39,14 +39,16 @@ if TILDE_IS_FREE:
 
 # ---- what the server prints.
 COUNT = "station_server: 138 commands\n"
-# On standard error, before a run: the files that stay as they are, since the new ones have other names. Each line is written in these parts, and
-# a stream that fails at one of them gets none of the others.
+# On standard error, before a run: the files that stay as they are, since the new ones have other names, and those of other tables and indexes
+# whose places the new ones take. Each line is written in these parts, and a stream that fails at one of them gets none of the others.
 KEPT = [["station_server: ", TABLE, " stays as it is: the new ", "table", " is ", "STOCK", ".DBF", "\n"],
-        ["station_server: ", INDEX, " stays as it is: the new ", "index", " is ", "BYCODE", ".NDX", "\n"]]
+        ["station_server: ", INDEX, " stays as it is: the new ", "index", " is ", "BYCODE", ".NDX", "\n"],
+        ["station_server: ", "./STOCK.DBF", " is there and is not read: it is replaced\n"],
+        ["station_server: ", "./BYCODE.NDX", " is there and is not read: it is replaced\n"]]
 # And where it takes text, after each run that has written its files.
 REFUSED = "station_server: 26 refused: STATION1.TXT 4 STATION2.TXT 4 STATION3.TXT 8 STATION4.TXT 6 STATION5.TXT 4\n"
 # What is said of a folder in which the new files are to take their places, or have begun to.
-UNOPENED = "station_server: cannot open the folder\n"
+UNOPENED = "station_server: cannot open the folder of --out: is it there, and may it be opened?\n"
 UNRECOVERED = "station_server: cannot recover the folder\n"
 # The folder has a list that no run has written.
 BAD_LIST = f"station_server: cannot recover the folder: {LIST} is no list of new files\n"
@@ -57,7 +59,7 @@ UNPRINTED = "station_server: cannot print\n"
 
 
 def without_kept(said):
-    """What is said beside the files that stay as they are, also where a stream has failed in one of these lines."""
+    """What is said beside the files that stay as they are or are replaced, also where a stream has failed in one of these lines."""
     for parts in KEPT:
         for count in range(len(parts), 1, -1):
             if said.startswith("".join(parts[:count])):
@@ -71,20 +73,20 @@ def without_kept(said):
 
 def unread(path):
     """What is said of a file that can't be read."""
-    return f"station_server: {path}: cannot read\n"
+    return f"station_server: {path}: cannot read: is it there, a file, and may it be read?\n"
 
 
 def unwritten(name):
     """What is said of a new file that can't be written."""
-    return f"station_server: cannot write {name}\n"
+    return f"station_server: cannot write {name}: is there room, and may the folder be written?\n"
 
 
 def is_unread(said):
-    return re.fullmatch("station_server: [~A-Z.]+: cannot read\n", said)
+    return re.fullmatch("station_server: [~A-Z.]+: cannot read: is it there, a file, and may it be read[?]\n", said)
 
 
 def is_unwritten(said):
-    return re.fullmatch("station_server: cannot write [A-Z0-9]+[.][A-Z]+\n", said)
+    return re.fullmatch("station_server: cannot write [A-Z0-9]+[.][A-Z]+: is there room, and may the folder be written[?]\n", said)
 
 
 def is_unready(said):

@@ -173,7 +173,7 @@ class SmallOffice:
 
     def refused(self, ended, files):
         """Whether a start was refused, named the entry or the file of the log, and left each file as it was."""
-        is_named = re.fullmatch(f"{NAME}: .* of the log.*\n", ended.complained)
+        is_named = ended.complained == live.NO_LOG or re.fullmatch(f"{NAME}: .* of the log.*\n", ended.complained)
         return ended.status == 5 and bool(is_named) and ended.printed == "" and ended.files == files
 
     def each(self, title, tries, judge, step=None):

@@ -52,6 +52,25 @@ class Closed:
                 return ("nothing was shown, and nothing is" if holds else None), first
             return ("performed again" if self.office.performed(first, count) else None), first
 
+    def again_kills(self):
+        """The day after a closed one is killed at each call: until it has a command of its own, the next start says that the one before was closed."""
+        calls = self.office.calls(self.office.whole, live.typed(LINES[:1]))
+        kills = [(f"{how} call {number}", (number, how)) for number in range(1, len(calls) + 1) for how in ("kill", "killed")]
+        return self.office.each("kills of the day after it, of one line", kills, self.kill_again)
+
+    def kill_again(self, number):
+        with self.office.folder(self.office.whole) as folder:
+            day = self.office.ran(folder, self.office.prompt(), live.typed(LINES[:1]), FAULT_AT=number[0], FAULT_HOW=number[1])
+            first = self.office.ran(folder, self.office.prompt())
+        if first.status != 0 or not killed_at(day):
+            return None, first
+        if first.complained == CLOSED:
+            return ("the day before was closed" if not day.shown and first.files == self.office.whole else None), first
+        if first.complained == CLOSED.replace(f"{len(LINES)} commands", "1 commands"):
+            return "its line was closed", first
+        return ("its line is performed again" if first.complained.startswith(f"{NAME}: 1 commands performed again\n") else None), first
+
     def closed_part(self):
         yield self.starts()
         yield self.kills()
+        yield self.again_kills()

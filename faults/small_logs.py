@@ -20,10 +20,12 @@ def unshown(log, count):
 
 
 def older(log):
-    """The log as versions of the program wrote it before its lines had sums, and before it began with the files of its day."""
-    head = live.HEAD.match(log)
-    body = log[head.end() :] if head else log
-    return [("without sums", re.sub(rb"(?m)^([+-])[0-9a-f]{16} ", rb"\1", body))] + ([("without the files of its day", body)] if head else [])
+    """The log as versions of the program wrote it before its lines had sums, and before it began with the files of its day; and one without the
+    line of the day before."""
+    body = log[live.HEAD.match(log).end() :]
+    without_sums = re.sub(rb"(?m)^([+-])[0-9a-f]{16} ", rb"\1", body)
+    without_day = re.sub(rb"(?m)^earlier [0-9]+ commands\n", b"", log)
+    return [("without sums", without_sums), ("without the files of its day", body), ("without the day before", without_day)]
 
 
 class Logs:
