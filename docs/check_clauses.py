@@ -188,8 +188,9 @@ def check_cell(page, head, cell):
 
 
 def check_rows(page, whole):
-    """Looks at each row of a table of promises. Its head may begin the names of the last cells."""
-    head = None
+    """Looks at each row of a table of promises. Its head may begin the names of the last cells. Below a row that goes on with the one
+    above, ″ would leave out the first of its cells."""
+    head, above = None, ""
     for line in whole.splitlines():
         cells = [cell.strip() for cell in re.split(r"(?<!\\)\|", line)[1:-1]]
         if not cells:
@@ -198,6 +199,9 @@ def check_rows(page, whole):
             head = found[1] or ""
         elif head is not None and set(cells[-1]) - set("-:") and not check_cell(page, head, cells[-1]):
             faults.append(f"{page}: nothing that this rests on: {cells[0][:80]}")
+        elif head is not None and cells[-1] == "″" and not above:
+            faults.append(f"{page}: ″ below a row that goes on: {cells[0][:80]}")
+        above = cells[0] if cells else above
 
 
 def check_pairs(page, calls, names):

@@ -17,11 +17,11 @@ BANDS = [
         "server_program", "live_stations", "live_program", "tool_program", "audit_program", "table_maker", "program_frame"]),
     ("A live day", "#e6f4ea", "each answer is on the disk before it is shown", ["open_day", "live_day", "live_log"]),
     ("A run", "#fdf3e1", "scripts, threads, a whole run from files to files", [
-        "office_run", "setup_check", "setup_files", "journal_file", "kept_files", "audit", "answer_pairs", "field_list", "station_lines"]),
+        "office_run", "setup_check", "setup_files", "entry_text", "journal_file", "kept_files", "audit", "field_list", "station_lines"]),
     ("The catalogue", "#fbe9ec", "what each command does (Step); the journal; the lock", ["shared_catalogue", "catalogue_core", "lock_table"]),
     ("Tables and indexes", "#efe9fb", "what a table is; reading, writing, editing", [
         "table_core", "table_order", "ndx_index", "key_expr", "dbf_image", "dbf_fields",
-        "table_diff", "table_text", "table_loader", "table_reader", "index_text"]),
+        "table_diff", "table_text", "table_loader", "table_reader"]),
     ("Bytes and files", "#eceff1", "all new files or none, after any crash", ["folders", "files_in_place", "disk_in_place", "byte_io"]),
 ]
 # The uses of a crate in a band above: a definition (`first_fault`), and whether a day is open.
